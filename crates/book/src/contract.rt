@@ -1,0 +1,64 @@
+// The contract record.
+use entry::source::Source;
+use entry::source::SourceDebug;
+use entry::source::SourceEq;
+use entry::source::SourcePartialEq;
+
+// A contract's number, unique in its month.
+pub type Number = u16;
+
+// How a contract is cut when its seller falls short. The classes are cut in this order; the last never is.
+#[derive(Clone, Copy, PartialEq, Eq, Debug)]
+pub enum Class {
+    // a free-market contract
+    Free,
+    // a free-market contract whose buyer is a retail trader
+    Retail,
+    // a regulated contract tied to no plant
+    Regulated,
+    // a regulated contract tied to a plant
+    Plant,
+}
+
+#[derive(Clone, Copy, PartialEq, Eq, Debug)]
+pub enum State {
+    Offered,
+    InForce,
+    Ended,
+}
+
+// What seller and buyer agree on, and what never changes after the offer.
+#[derive(Clone, Copy, PartialEq, Eq, Debug)]
+pub struct Terms {
+    pub number: Number,
+    pub seller: u16,
+    pub buyer: u16,
+    pub submarket: u16,
+    pub class: Class,
+    pub source: Source,
+    pub first: u16,
+    pub last: u16,
+    pub amount: u32,
+}
+
+// A contract at its place: its terms, what the cuts leave of its amount, and how far its life has come.
+#[derive(Clone, Copy, PartialEq, Eq, Debug)]
+pub struct Contract {
+    pub terms: Terms,
+    pub effective: u32,
+    pub state: State,
+}
+
+// An offer as it is called: the terms as plain numbers, of which nothing is known yet.
+#[derive(Clone, Copy, PartialEq, Eq, Debug)]
+pub struct Offer {
+    pub number: Number,
+    pub seller: u16,
+    pub buyer: u16,
+    pub submarket: u16,
+    pub class: u16,
+    pub source: u16,
+    pub first: u16,
+    pub last: u16,
+    pub amount: u32,
+}

@@ -1,0 +1,2 @@
+// Entries of the board: what one agent's position at an hour is written in.
+pub mod source;
