@@ -1,14 +1,11 @@
 // The contract record.
 use entry::source::Source;
-use entry::source::SourceDebug;
-use entry::source::SourceEq;
-use entry::source::SourcePartialEq;
 
 // A contract's number, unique in its month.
 pub type Number = u16;
 
 // How a contract is cut when its seller falls short. The classes are cut in this order; the last never is.
-#[derive(Clone, Copy, PartialEq, Eq, Debug)]
+#[derive(Clone, Copy, PartialEq, Eq)]
 pub enum Class {
     // a free-market contract
     Free,
@@ -20,7 +17,7 @@ pub enum Class {
     Plant,
 }
 
-#[derive(Clone, Copy, PartialEq, Eq, Debug)]
+#[derive(Clone, Copy, PartialEq, Eq)]
 pub enum State {
     Offered,
     InForce,
@@ -28,7 +25,7 @@ pub enum State {
 }
 
 // What seller and buyer agree on, and what never changes after the offer.
-#[derive(Clone, Copy, PartialEq, Eq, Debug)]
+#[derive(Clone, Copy)]
 pub struct Terms {
     pub number: Number,
     pub seller: u16,
@@ -42,7 +39,7 @@ pub struct Terms {
 }
 
 // A contract at its place: its terms, what the cuts leave of its amount, and how far its life has come.
-#[derive(Clone, Copy, PartialEq, Eq, Debug)]
+#[derive(Clone, Copy)]
 pub struct Contract {
     pub terms: Terms,
     pub effective: u32,
@@ -50,7 +47,7 @@ pub struct Contract {
 }
 
 // An offer as it is called: the terms as plain numbers, of which nothing is known yet.
-#[derive(Clone, Copy, PartialEq, Eq, Debug)]
+#[derive(Clone, Copy)]
 pub struct Offer {
     pub number: Number,
     pub seller: u16,

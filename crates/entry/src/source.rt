@@ -1,5 +1,5 @@
 // The source of a contract's energy.
-#[derive(Clone, Copy, PartialEq, Eq, Debug)]
+#[derive(Clone, Copy, PartialEq, Eq)]
 pub enum Source {
     Conventional,
     Incentivised,
