@@ -1,0 +1,14 @@
+-- The certificate line, and bytes written over a page.
+use mathlib.Core.List.{List, [], _∷_, _++_}
+use Prim.Native.Nat.{ℕ, _+_}
+use lib.Chars.{codes}
+use lib.ListN.{length, take, drop}
+use Rattle.std.specs.Written.{decimal}
+
+-- what is certified of an agent: its turnover, in kWh, and a line feed
+abbrev pub certificateLine : ℕ → ℕ → ℕ → List ℕ
+certificateLine agent sold bought = codes "agent " ++ (decimal agent ++ (codes " sold " ++ (decimal sold ++ (codes " bought " ++ (decimal bought ++ (10 ∷ []))))))
+
+-- a page with bytes written over it, from an index on
+abbrev pub over : ℕ → List ℕ → List ℕ → List ℕ
+over at bytes page = take at page ++ (bytes ++ drop (at + length bytes) page)
