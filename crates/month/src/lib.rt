@@ -1,2 +1,3 @@
 // One market month: open and closed months, and every call on them.
-pub mod page;
+mod page;
+pub mod phase;
