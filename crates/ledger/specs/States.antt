@@ -1,9 +1,11 @@
 -- The state of a month: its numbers, and what the four memories hold.
-use mathlib.Core.Path.{_≡_}
-use mathlib.Core.List.{List}
-use Prim.Native.Nat.{ℕ}
-use lib.ListN.{take}
+use mathlib.Core.List.{List, [], _∷_}
+use Prim.Native.Nat.{ℕ, suc, _+_, _-_, _*_}
+use lib.ListN.{take, drop, getD}
+use Rattle.entry.specs.declared.source.Source.the-variants.{Conventional}
+use Rattle.book.specs.declared.contract.Class.the-variants.{Plant}
 use Rattle.book.specs.declared.contract.Contract.{Contract}
+use Rattle.book.specs.declared.contract.State.the-variants.{Ended}
 use Rattle.book.specs.declared.sizes.Sizes.{Sizes}
 
 -- The board is held by what its entries mean.
@@ -18,3 +20,23 @@ pub record State (V : Type 0) : Type 0 where
 -- the contracts at the taken places, in place order
 abbrev pub contracts : {V : Type 0} → State V → List Contract
 contracts s = take (s .taken) (s .places)
+
+-- what stands where no contract does
+abbrev pub blank : Contract
+blank = record {
+  terms = record { number = 0; seller = 0; buyer = 0; submarket = 0; class = Plant; source = Conventional; first = 0; last = 0; amount = 0 };
+  effective = 0; state = Ended }
+
+-- the contract at a taken place, and its row; places count from 0 here
+abbrev pub contractAt : {V : Type 0} → State V → ℕ → Contract
+contractAt s i = getD (contracts s) i blank
+
+abbrev pub rowOf : ℕ → List ℕ → ℕ → List ℕ
+rowOf hours rows i = take hours (drop (i * hours) rows)
+
+abbrev pub rowAt : {V : Type 0} → State V → ℕ → List ℕ
+rowAt s i = rowOf (s .sizes .hours) (s .rows) i
+
+-- the shortfall of an agent, who counts from 1
+abbrev pub shortfallOf : {V : Type 0} → State V → ℕ → ℕ
+shortfallOf s agent = getD (s .shortfalls) (agent - 1) 0
