@@ -1,0 +1,4 @@
+pub mod Exact
+pub mod Steps
+pub mod Totals
+pub mod Wrap
