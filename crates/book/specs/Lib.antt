@@ -1,0 +1,4 @@
+pub mod Limits
+pub mod Sizing
+pub mod States
+pub mod Terms

@@ -1,3 +1,6 @@
 // The book of one month: contracts at their places, and what a sound book is.
 pub mod contract;
+mod limit;
 pub mod sizes;
+pub mod states;
+pub mod terms;
