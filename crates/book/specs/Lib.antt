@@ -2,3 +2,4 @@ pub mod Limits
 pub mod Sizing
 pub mod States
 pub mod Terms
+pub mod Lookup

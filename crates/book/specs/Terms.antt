@@ -70,6 +70,10 @@ pub record Acceptable (sizes : Sizes) (o : Offer) : Type 0 where
   pub amount : (1 ≤ o .amount) × (o .amount ≤ mostAmount)
   pub parties : o .seller ≢ o .buyer
 
+-- a contract just offered
+abbrev pub offered : Terms → Contract
+offered t = record { terms = t; effective = 0; state = Offered }
+
 -- what an accepted offer puts at its place
 pub record Offers (o : Offer) (c : Contract) : Type 0 where
   pub terms : fields (c .terms) ≡ o

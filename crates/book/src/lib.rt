@@ -1,6 +1,7 @@
 // The book of one month: contracts at their places, and what a sound book is.
 pub mod contract;
 mod limit;
+pub mod lookup;
 pub mod sizes;
 pub mod states;
 pub mod terms;

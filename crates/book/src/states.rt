@@ -2,6 +2,7 @@
 ghost use mathlib.Core.Path.{_≡_};
 ghost use Prim.Native.Nat.{_<_};
 ghost use Rattle.book.specs.States.{allowed, inForce, nextState, stateNumber};
+ghost use Rattle.book.specs.Terms.{offered as justOffered};
 ghost use Rattle.std.specs.Slices.{found};
 use crate::contract::Contract;
 use crate::contract::Event;
@@ -23,6 +24,13 @@ impl State {
 }
 
 impl Contract {
+    // A contract just offered: none of its amount counts yet.
+    pub fn offered(terms: Terms) -> Contract
+        ensures { λ r. ⌜ r ≡ justOffered terms ⌝ }
+    {
+        Contract { terms, effective: 0, state: State::Offered }
+    }
+
     pub fn in_force(&self) -> bool
         ensures { λ r. ⌜ r ≡ inForce (now (self .entry)) ⌝ }
     {
