@@ -21,7 +21,7 @@ placeOf number taken = placeFrom 1 number taken
 -- no place below `place` has the number
 abbrev pub NotBefore : ℕ → ℕ → List Contract → Type 0
 NotBefore place number taken =
-  (k : ℕ) (d : Contract) → k + 1 < place → k < length taken → getD taken k d .terms .number ≢ number
+    (k : ℕ) (d : Contract) → k + 1 < place → k < length taken → getD taken k d .terms .number ≢ number
 
 -- the number stands at the place, and at no earlier one
 pub record FirstPlace (number : ℕ) (taken : List Contract) (place : ℕ) : Type 0 where

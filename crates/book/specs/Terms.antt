@@ -70,6 +70,24 @@ pub record Acceptable (sizes : Sizes) (o : Offer) : Type 0 where
   pub amount : (1 ≤ o .amount) × (o .amount ≤ mostAmount)
   pub parties : o .seller ≢ o .buyer
 
+-- what a reading past the last place counts as
+abbrev pub blank : Contract
+blank = record {
+  terms = record {
+    number = 0;
+    seller = 0;
+    buyer = 0;
+    submarket = 0;
+    class = Free;
+    source = Conventional;
+    first = 0;
+    last = 0;
+    amount = 0;
+  };
+  effective = 0;
+  state = Offered;
+}
+
 -- a contract just offered
 abbrev pub offered : Terms → Contract
 offered t = record { terms = t; effective = 0; state = Offered }

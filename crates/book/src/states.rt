@@ -28,7 +28,11 @@ impl Contract {
     pub fn offered(terms: Terms) -> Contract
         ensures { λ r. ⌜ r ≡ justOffered terms ⌝ }
     {
-        Contract { terms, effective: 0, state: State::Offered }
+        Contract {
+            terms,
+            effective: 0,
+            state: State::Offered,
+        }
     }
 
     pub fn in_force(&self) -> bool

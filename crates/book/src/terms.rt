@@ -63,7 +63,10 @@ impl Offer {
         limit(self.last as u32, first, hours, Reason::FieldOutside, 8)?;
         limit(self.amount, 1, MOST_AMOUNT, Reason::FieldOutside, 9)?;
         if self.seller == self.buyer {
-            return Err(Fault { reason: Reason::SellerIsBuyer, spot: 0 });
+            return Err(Fault {
+                reason: Reason::SellerIsBuyer,
+                spot: 0,
+            });
         }
         Ok(())
     }

@@ -6,5 +6,5 @@ use Rattle.book.proofs.lookup.find.Given as given
 
 abbrev pub Inv-loop-i : given.InvT-loop-i
 Inv-loop-i l =
-  (placeFrom (l .i + 1) (l .number) (drop (l .i) (l .taken)) ≡ placeOf (l .number) (l .taken))
-  × NotBefore (l .i + 1) (l .number) (l .taken)
+    (placeFrom (l .i + 1) (l .number) (drop (l .i) (l .taken)) ≡ placeOf (l .number) (l .taken))
+    × NotBefore (l .i + 1) (l .number) (l .taken)
