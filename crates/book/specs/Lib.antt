@@ -3,3 +3,4 @@ pub mod Sizing
 pub mod States
 pub mod Terms
 pub mod Lookup
+pub mod Sound

@@ -3,5 +3,6 @@ pub mod contract;
 mod limit;
 pub mod lookup;
 pub mod sizes;
+pub mod sound;
 pub mod states;
 pub mod terms;
