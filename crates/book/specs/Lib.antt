@@ -1,0 +1,6 @@
+pub mod Limits
+pub mod Sizing
+pub mod States
+pub mod Terms
+pub mod Lookup
+pub mod Sound

@@ -4,6 +4,15 @@ use entry::source::Source;
 // A contract's number, unique in its month.
 pub type Number = u16;
 
+// The largest number that a contract can have.
+pub const MOST_NUMBER: u32 = 65_535;
+
+// The largest amount of a contract, in kWh.
+pub const MOST_AMOUNT: u32 = 1_000_000_000;
+
+// The most that a shortfall, or the amounts in force of one seller, can come to.
+pub const MOST_TOTAL: u64 = 2_000_000_000;
+
 // How a contract is cut when its seller falls short. The classes are cut in this order; the last never is.
 #[derive(Clone, Copy, PartialEq, Eq)]
 pub enum Class {
@@ -58,4 +67,11 @@ pub struct Offer {
     pub first: u16,
     pub last: u16,
     pub amount: u32,
+}
+
+// What a party brings about in a contract's life.
+#[derive(Clone, Copy)]
+pub enum Event {
+    Confirmation,
+    Ending,
 }

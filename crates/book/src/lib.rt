@@ -1,3 +1,8 @@
 // The book of one month: contracts at their places, and what a sound book is.
 pub mod contract;
+mod limit;
+pub mod lookup;
 pub mod sizes;
+pub mod sound;
+pub mod states;
+pub mod terms;

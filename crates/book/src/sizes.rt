@@ -1,6 +1,8 @@
 // The sizes of a month, within their limits.
 ghost use Prim.Native.Nat.{_≤_};
 
+pub mod sizing;
+
 #[derive(Clone, Copy)]
 pub struct Sizes {
     agents: u16,
