@@ -19,7 +19,7 @@ use Rattle.book.specs.Cuts.{claimOf, effectiveAt}
 use Rattle.book.specs.Lookup.{placeOf}
 use Rattle.book.specs.States.{inForce}
 use Rattle.book.specs.Terms.{Offers}
-use Rattle.ledger.specs.States.{State, contracts, contractAt, shortfallOf, rowOf}
+use Rattle.ledger.specs.States.{State, contracts, contractAt, shortfallOf}
 use Rattle.ledger.specs.Boards.{Revised}
 use Rattle.ledger.specs.Checks.{offerRefusal, confirmRefusal, endRefusal, tellRefusal}
 

@@ -33,4 +33,4 @@ LeadsOn k call answer s t = (past : List Event) → Lived k past s → Lived k (
 
 -- every life balances, for every kind of entry whose joins obey the laws
 abbrev pub EveryLifeBalances : Type 1
-EveryLifeBalances = {V : Type 0} (k : Kind V) → Laws (joins k) → (past : List Event) (s : State V) → Lived k past s → Balanced k past s
+EveryLifeBalances = (V : Type 0) (k : Kind V) → Laws (joins k) → (past : List Event) (s : State V) → Lived k past s → Balanced k past s

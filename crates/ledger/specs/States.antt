@@ -1,12 +1,13 @@
 -- The state of a month: its numbers, and what the four memories hold.
-use mathlib.Core.List.{List, [], _∷_}
-use Prim.Native.Nat.{ℕ, suc, _+_, _-_, _*_}
-use lib.ListN.{take, drop, getD}
+use mathlib.Core.List.{List}
+use Prim.Native.Nat.{ℕ, _-_}
+use lib.ListN.{take, getD}
 use Rattle.entry.specs.declared.source.Source.the-variants.{Conventional}
 use Rattle.book.specs.declared.contract.Class.the-variants.{Plant}
 use Rattle.book.specs.declared.contract.Contract.{Contract}
 use Rattle.book.specs.declared.contract.State.the-variants.{Ended}
 use Rattle.book.specs.declared.sizes.Sizes.{Sizes}
+use Rattle.book.specs.Sound.{rowOf}
 
 -- The board is held by what its entries mean.
 pub record State (V : Type 0) : Type 0 where
@@ -30,9 +31,6 @@ blank = record {
 -- the contract at a taken place, and its row; places count from 0 here
 abbrev pub contractAt : {V : Type 0} → State V → ℕ → Contract
 contractAt s i = getD (contracts s) i blank
-
-abbrev pub rowOf : ℕ → List ℕ → ℕ → List ℕ
-rowOf hours rows i = take hours (drop (i * hours) rows)
 
 abbrev pub rowAt : {V : Type 0} → State V → ℕ → List ℕ
 rowAt s i = rowOf (s .sizes .hours) (s .rows) i
