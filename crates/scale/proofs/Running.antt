@@ -1,7 +1,7 @@
 -- What every rounding rule has in common.
 use mathlib.Core.Path.{_≡_, refl, ap, sym, _∙_, subst}
 use mathlib.Core.List.{List, [], _∷_, _++_}
-use mathlib.Core.Logic.{_⊎_, inl, inr, ⊎-elim}
+use mathlib.Core.Logic.{_⊎_, inl, inr}
 use Prim.Native.Nat.{ℕ, zero, suc, _+_, _-_, _*_, _/_, _≤_, _<_}
 use native.Mathlib.Nat.{suc-mul, mul-zero, zero-mul, add-zero, zero-add, add-mul, mul-add, mul-comm, mul-assoc, mul-le-mul-left, mul-le-mul-right, lt-of-mul-lt-mul-left, lt-of-mul-lt-mul-right, le-of-mul-le-mul-right, div-mul-le-self, lt-div-mul-add, add-assoc}
 use native.Mathlib.Omega.{arith}
@@ -12,6 +12,8 @@ use Rattle.std.proofs.shelf.Sums.{sumBy-cons, sumBy-append, sumBy-take-le, sumB
 use Rattle.std.proofs.shelf.Tests.{cases-lt}
 use Rattle.scale.specs.Shares.{sharedBy, downTo, Rule, Sound, Shared, sharesOf, stretch, Within, Running}
 use Rattle.scale.specs.Fairness.{Fair}
+use Rattle.scale.specs.Weights.{weightAt}
+use Rattle.scale.proofs.Parts.{total-at, weight-zero, weight-past}
 
 -- a factor less: r * W < s * W + W gives r ≤ s
 pub below-next : (r s W : ℕ) → r * W < s * W + W → r ≤ s
@@ -34,7 +36,7 @@ module _ (q W : ℕ) (run : ℕ → ℕ) (rule : Running q W run) where
   pub run-near : (a d x : ℕ) → x + run a ≡ run (a + d) → Within W (x * W) (q * d)
   run-near a d x e =
       let f : x * W + run a * W ≡ run (a + d) * W = sym (add-mul x (run a) W) ∙ ap (λ r. r * W) e in
-      ( omega (arith, rule .low (a + d), rule .high a, mul-add q a d), omega (arith, rule .high (a + d), rule .low a, mul-add q a d))
+      (omega (arith, rule .low (a + d), rule .high a, mul-add q a d), omega (arith, rule .high (a + d), rule .low a, mul-add q a d))
 
   pub shared-sum : (before : ℕ) (ws : List ℕ) → sum (sharedBy run before ws) + run before ≡ run (before + sum ws)
   shared-sum before [] = rw add-zero (zero-add (run before))
@@ -60,7 +62,7 @@ module _ (q W : ℕ) (run : ℕ → ℕ) (rule : Running q W run) where
   shared-stretch i n ws =
       let a : ℕ = 0 + sum (take i ws) in
       let e : take n (drop i (sharedBy run 0 ws)) ≡ sharedBy run (sum (take i ws)) (take n (drop i ws)) =
-        ap (take n) (shared-drop run i 0 ws) ∙ shared-take run n (0 + sum (take i ws)) (drop i ws) ∙ ap (λ b. sharedBy run b (take n (drop i ws))) (zero-add (sum (take i ws))) in
+      ap (take n) (shared-drop run i 0 ws) ∙ shared-take run n (0 + sum (take i ws)) (drop i ws) ∙ ap (λ b. sharedBy run b (take n (drop i ws))) (zero-add (sum (take i ws))) in
       ap (λ r. sum r + run (sum (take i ws))) e ∙ shared-sum q W run rule (sum (take i ws)) (take n (drop i ws))
 
   -- the three theorems, for every rule
@@ -118,17 +120,18 @@ module _ (rule : Rule) (sound : Sound rule) where
     total = of-total;
     near = of-near;
     again = λ q e ws pos some le i n.
-      let t : sum (sharesOf rule q ws) ≡ q = of-total q ws pos in
-      let f = of-near e (sharesOf rule q ws) (omega arith) i n in
-      let f′ : Within q (stretch i n (sharesOf rule e (sharesOf rule q ws)) * q) (e * stretch i n (sharesOf rule q ws)) =
+        let t : sum (sharesOf rule q ws) ≡ q = of-total q ws pos in
+        let f = of-near e (sharesOf rule q ws) (omega arith) i n in
+        let f′ : Within q (stretch i n (sharesOf rule e (sharesOf rule q ws)) * q) (e * stretch i n (sharesOf rule q ws)) =
         subst (λ A. Within A (stretch i n (sharesOf rule e (sharesOf rule q ws)) * A) (e * stretch i n (sharesOf rule q ws))) t f in
-      twice _ (stretch i n (sharesOf rule q ws)) _ e q (sum ws) some le f′ (of-near q ws pos i n);
+        twice _ (stretch i n (sharesOf rule q ws)) _ e q (sum ws) some le f′ (of-near q ws pos i n);
     whole = of-same;
-    whole-near = λ q ws pos some i n. rw (of-same q ws pos some) (of-near q ws pos i n) }
+    whole-near = λ q ws pos some i n. rw (of-same q ws pos some) (of-near q ws pos i n);
+  }
 
 -- one more part written, the weights up to it being added up
 pub shared-step : (run : ℕ → ℕ) (ws out all : List ℕ) (i before w y : ℕ) → i < length ws → i < length out → w ≡ getD ws i 0 → y ≡ run (before + w) - run before →
-  take i out ++ sharedBy run before (drop i ws) ≡ all → take (i + 1) (set out i y) ++ sharedBy run (before + w) (drop (i + 1) ws) ≡ all
+    take i out ++ sharedBy run before (drop i ws) ≡ all → take (i + 1) (set out i y) ++ sharedBy run (before + w) (drop (i + 1) ws) ≡ all
 shared-step run ws out all i before w y h k e f inv =
     let a : take (i + 1) (set out i y) ≡ take i out ++ (y ∷ []) = take-more-set out i y k in
     let b : drop i ws ≡ w ∷ drop (i + 1) ws = drop-more ws i 0 h ∙ ap (λ v. v ∷ drop (i + 1) ws) (sym e) in
@@ -139,7 +142,7 @@ shared-step run ws out all i before w y h k e f inv =
     ∙ inv
 
 pub shared-done : (run : ℕ → ℕ) (ws out all : List ℕ) (i before : ℕ) → length ws ≤ i → length out ≤ i →
-  take i out ++ sharedBy run before (drop i ws) ≡ all → out ≡ all
+    take i out ++ sharedBy run before (drop i ws) ≡ all → out ≡ all
 shared-done run ws out all i before h k inv =
     sym (append-nil out)
     ∙ ap (λ r. r ++ []) (sym (take-all i out k))
@@ -157,7 +160,7 @@ shared-row rule sound q ws row pos e =
 
 -- what one part gets
 pub shared-at : (run : ℕ → ℕ) (before : ℕ) (ws : List ℕ) (j : ℕ) → j < length ws →
-  getD (sharedBy run before ws) j 0 ≡ run (before + sum (take (suc j) ws)) - run (before + sum (take j ws))
+    getD (sharedBy run before ws) j 0 ≡ run (before + sum (take (suc j) ws)) - run (before + sum (take j ws))
 shared-at run before [] j h = omega arith
 shared-at run before (w ∷ ws) zero h =
     let a : before + w ≡ before + sum (w ∷ []) = omega (arith, sumBy-cons (λ x. x) w []) in
@@ -173,3 +176,25 @@ shared-at run before (w ∷ ws) (suc j) h =
 pub length-shared : (run : ℕ → ℕ) (before : ℕ) (ws : List ℕ) → length (sharedBy run before ws) ≡ length ws
 length-shared run before [] = refl
 length-shared run before (w ∷ ws) = ap suc (length-shared run (before + w) ws)
+
+-- what part p gets, 0 for a part outside
+pub part-share : (rule : Rule) (q : ℕ) (ws : List ℕ) (p : ℕ) → 1 ≤ p → p ≤ length ws →
+    weightAt (sharesOf rule q ws) p ≡ rule q (sum ws) (sum (take (p - 1) ws) + weightAt ws p) - rule q (sum ws) (sum (take (p - 1) ws))
+part-share rule q ws zero h k = omega arith
+part-share rule q ws (suc j) h k =
+    let run : ℕ → ℕ = rule q (sum ws) in
+    let a : 0 + sum (take (suc j) ws) ≡ sum (take (suc j - 1) ws) + getD ws j 0 = omega (arith, total-at ws (suc j) h k) in
+    let b : 0 + sum (take j ws) ≡ sum (take (suc j - 1) ws) = zero-add (sum (take j ws)) ∙ ap (λ i. sum (take i ws)) (omega arith) in
+    shared-at run 0 ws j (omega arith)
+    ∙ ap (λ x. run x - run (0 + sum (take j ws))) a
+    ∙ ap (λ x. run (sum (take (suc j - 1) ws) + getD ws j 0) - run x) b
+
+-- the same, as a program works it out
+pub part-value : (rule : Rule) (q : ℕ) (ws : List ℕ) (p W before w low high : ℕ) → 1 ≤ p → p ≤ length ws →
+    W ≡ sum ws → before ≡ sum (take (p - 1) ws) → w ≡ weightAt ws p → high ≡ rule q W (before + w) → low ≡ rule q W before →
+    high - low ≡ weightAt (sharesOf rule q ws) p
+part-value rule q ws p W before w low high h k e b x u v = let r = part-share rule q ws p h k in cc
+
+pub no-part-share : (rule : Rule) (q : ℕ) (ws : List ℕ) (p : ℕ) → (p < 1) ⊎ (length ws < p) → weightAt (sharesOf rule q ws) p ≡ 0
+no-part-share rule q ws p (inl h) = weight-zero (sharesOf rule q ws) p h
+no-part-share rule q ws p (inr h) = weight-past (sharesOf rule q ws) p (omega (arith, length-shared (rule q (sum ws)) 0 ws))

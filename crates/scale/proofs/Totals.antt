@@ -2,7 +2,7 @@
 use mathlib.Core.Path.{_≡_, refl, ap, sym, subst, _∙_}
 use mathlib.Core.Bool.{true, false, cond}
 use mathlib.Core.List.{List, [], _∷_}
-use mathlib.Core.Logic.{_⊎_, inl, inr, ⊎-elim}
+use mathlib.Core.Logic.{_⊎_, inl, inr}
 use Prim.Native.Nat.{ℕ, zero, suc, _+_, _-_, _≤_, _<_}
 use native.Mathlib.Omega.{arith}
 use lib.Dec.{leb, eqb}
@@ -23,7 +23,7 @@ take-rising ws j k h = omega (arith, sumBy-take-le (λ x. x) (take k ws) j, ap s
 
 -- where the running total passes between p parts and one more, that is the part told
 pub passed-at : (before : ℕ) (ws : List ℕ) (p : ℕ) → p < length ws → before + sum (take p ws) ≤ limit → limit < before + sum (take (suc p) ws) →
-  passedAt before ws ≡ suc p
+    passedAt before ws ≡ suc p
 passed-at before [] p h low high = omega arith
 passed-at before (w ∷ ws) zero h low high =
     cond-false _ _ _ (lt-leb (before + w) limit (omega (arith, sumBy-cons (λ x. x) w [])))
@@ -35,15 +35,16 @@ passed-at before (w ∷ ws) (suc p) h low high =
 
 -- a total above the limit passes it at a part
 pub passes-somewhere : (before : ℕ) (ws : List ℕ) → before ≤ limit → limit < before + sum ws →
-  (p : ℕ) × (p < length ws) × (before + sum (take p ws) ≤ limit) × (limit < before + sum (take (suc p) ws))
+    (p : ℕ) × (p < length ws) × (before + sum (take p ws) ≤ limit) × (limit < before + sum (take (suc p) ws))
 passes-somewhere before [] low high = let no : ⊥ = omega arith in absurd no
 passes-somewhere before (w ∷ ws) low high =
     let s = sumBy-cons (λ x. x) w ws in
     elim (cases-lt limit (before + w)) [
-      inl h ↦ (0, omega arith, omega arith, omega (arith, sumBy-cons (λ x. x) w []))
-    | inr h ↦
-        let q = passes-somewhere (before + w) ws h (omega arith) in
-        (suc (q .0), omega arith, omega (arith, sumBy-cons (λ x. x) w (take (q .0) ws)), omega (arith, sumBy-cons (λ x. x) w (take (suc (q .0)) ws))) ]
+      | inl h ↦ (0, omega arith, omega arith, omega (arith, sumBy-cons (λ x. x) w []))
+      | inr h ↦
+          let q = passes-somewhere (before + w) ws h (omega arith) in
+          (suc (q .0), omega arith, omega (arith, sumBy-cons (λ x. x) w (take (q .0) ws)), omega (arith, sumBy-cons (λ x. x) w (take (suc (q .0)) ws)))
+    ]
 
 pub check-empty : (ws : List ℕ) → sum ws ≡ 0 → totalCheck ws ≡ Some (refusal 12 0)
 check-empty ws e = ap (λ b. firstOf (unless b 12 0 ∷ unless (leb (sum ws) limit) 13 (passedAt 0 ws) ∷ [])) (lt-leb 1 (sum ws) (omega arith))
@@ -60,12 +61,13 @@ check-fine ws h k =
 
 -- the three ways that the check goes
 pub check-ways : (ws : List ℕ) →
-  ((sum ws ≡ 0) × (totalCheck ws ≡ Some (refusal 12 0)))
-  ⊎ (((limit < sum ws) × (totalCheck ws ≡ Some (refusal 13 (passedAt 0 ws)))) ⊎ ((1 ≤ sum ws) × (sum ws ≤ limit) × (totalCheck ws ≡ None)))
+    ((sum ws ≡ 0) × (totalCheck ws ≡ Some (refusal 12 0)))
+    ⊎ (((limit < sum ws) × (totalCheck ws ≡ Some (refusal 13 (passedAt 0 ws)))) ⊎ ((1 ≤ sum ws) × (sum ws ≤ limit) × (totalCheck ws ≡ None)))
 check-ways ws =
     elim (cases-lt 0 (sum ws)) [
-      inr z ↦ let e : sum ws ≡ 0 = omega arith in inl (e, check-empty ws e)
-    | inl h ↦ elim (cases-lt limit (sum ws)) [ inl k ↦ inr (inl (k, check-heavy ws k)) | inr k ↦ inr (inr (h, k, check-fine ws h k)) ] ]
+      | inr z ↦ let e : sum ws ≡ 0 = omega arith in inl (e, check-empty ws e)
+      | inl h ↦ elim (cases-lt limit (sum ws)) [ inl k ↦ inr (inl (k, check-heavy ws k)) | inr k ↦ inr (inr (h, k, check-fine ws h k)) ]
+    ]
 
 pub passes-from : (ws : List ℕ) (p : ℕ) → p < length ws → sum (take p ws) ≤ limit → limit < sum (take (suc p) ws) → Passes ws (suc p)
 passes-from ws p h low high =
@@ -99,24 +101,27 @@ apart a b differ e = absurd (differ (ap numberIs e))
 pub told : (ws : List ℕ) → Told ws
 unfolding numberIs spotIs
 told ws = record {
-    weightless = λ e. elim (check-ways ws) [
-      inl w ↦ w .0
+  weightless = λ e. elim (check-ways ws) [
+    | inl w ↦ w .0
     | inr (inl w) ↦ apart _ _ (λ z. omega arith) (sym (w .1) ∙ e)
-    | inr (inr w) ↦ apart _ _ (λ z. omega arith) (sym (w .2) ∙ e) ];
-    empty = check-empty ws;
-    heavy = λ p e. elim (check-ways ws) [
-      inl w ↦ apart _ _ (λ z. omega arith) (sym (w .1) ∙ e)
+    | inr (inr w) ↦ apart _ _ (λ z. omega arith) (sym (w .2) ∙ e)
+  ];
+  empty = check-empty ws;
+  heavy = λ p e. elim (check-ways ws) [
+    | inl w ↦ apart _ _ (λ z. omega arith) (sym (w .1) ∙ e)
     | inr (inl w) ↦ subst (Passes ws) (ap spotIs (sym (w .1) ∙ e)) (heavy-passes ws (w .0))
-    | inr (inr w) ↦ apart _ _ (λ z. omega arith) (sym (w .2) ∙ e) ];
-    passing = passes-is ws }
+    | inr (inr w) ↦ apart _ _ (λ z. omega arith) (sym (w .2) ∙ e)
+  ];
+  passing = passes-is ws;
+}
 
 -- the checks before an amount is shared all pass
-pub part-fine : (q : ℕ) (ws : List ℕ) → q ≤ limit → totalCheck ws ≡ None → partCheck q ws ≡ None
+pub part-fine : (q : ℕ) (ws : List ℕ) → q ≤ limit → None ≡ totalCheck ws → None ≡ partCheck q ws
 part-fine q ws h t =
-    ap (λ b. firstOf (unless b 4 1 ∷ totalCheck ws ∷ [])) (le-leb q limit h) ∙ ap (λ o. firstOf (o ∷ [])) t
+    sym (ap (λ b. firstOf (unless b 4 1 ∷ totalCheck ws ∷ [])) (le-leb q limit h) ∙ ap (λ o. firstOf (o ∷ [])) (sym t))
 
-pub share-fine : (q places : ℕ) (ws : List ℕ) → q ≤ limit → places ≡ length ws → totalCheck ws ≡ None → shareCheck q places ws ≡ None
+pub share-fine : (q places : ℕ) (ws : List ℕ) → q ≤ limit → places ≡ length ws → None ≡ totalCheck ws → None ≡ shareCheck q places ws
 share-fine q places ws h e t =
-    ap (λ b. firstOf (unless b 4 1 ∷ unless (eqb places (length ws)) 11 0 ∷ totalCheck ws ∷ [])) (le-leb q limit h)
+    sym (ap (λ b. firstOf (unless b 4 1 ∷ unless (eqb places (length ws)) 11 0 ∷ totalCheck ws ∷ [])) (le-leb q limit h)
     ∙ ap (λ b. firstOf (unless b 11 0 ∷ totalCheck ws ∷ [])) (eq-eqb places (length ws) e)
-    ∙ ap (λ o. firstOf (o ∷ [])) t
+    ∙ ap (λ o. firstOf (o ∷ [])) (sym t))

@@ -12,10 +12,10 @@ pub record Fair (share : ℕ → List ℕ → List ℕ) : Type 0 where
   pub total : (q : ℕ) (ws : List ℕ) → 1 ≤ sum ws → sum (share q ws) ≡ q
   pub near : (q : ℕ) (ws : List ℕ) → 1 ≤ sum ws → (i n : ℕ) → Within (sum ws) (stretch i n (share q ws) * sum ws) (q * stretch i n ws)
   pub again : (q e : ℕ) (ws : List ℕ) → 1 ≤ sum ws → 1 ≤ q → e ≤ q → (i n : ℕ) →
-    Within (2 * sum ws) (stretch i n (share e (share q ws)) * sum ws) (e * stretch i n ws)
+      Within (2 * sum ws) (stretch i n (share e (share q ws)) * sum ws) (e * stretch i n ws)
   pub whole : (q : ℕ) (ws : List ℕ) → 1 ≤ sum ws → 1 ≤ q → share q (share q ws) ≡ share q ws
   pub whole-near : (q : ℕ) (ws : List ℕ) → 1 ≤ sum ws → 1 ≤ q → (i n : ℕ) →
-    Within (sum ws) (stretch i n (share q (share q ws)) * sum ws) (q * stretch i n ws)
+      Within (sum ws) (stretch i n (share q (share q ws)) * sum ws) (q * stretch i n ws)
 
 abbrev pub SoundIsFair : Type 0
 SoundIsFair = (rule : Rule) → Sound rule → Fair (sharesOf rule)

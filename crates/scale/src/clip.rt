@@ -27,6 +27,10 @@ pub impl<S: Scale> Scale for Clip<'_, S> as ClipScale {
     }
 
     fn weight(&self, part: usize) -> u32 {
-        if part >= self.first && part <= self.last { self.scale.weight(part) } else { 0 }
+        if part >= self.first && part <= self.last {
+            self.scale.weight(part)
+        } else {
+            0
+        }
     }
 }

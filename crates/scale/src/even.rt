@@ -24,6 +24,10 @@ pub impl Scale for EvenScale as EvenScaleScale {
     }
 
     fn weight(&self, part: usize) -> u32 {
-        if part >= 1 && part <= self.parts { 1 } else { 0 }
+        if part >= 1 && part <= self.parts {
+            1
+        } else {
+            0
+        }
     }
 }

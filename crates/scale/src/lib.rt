@@ -5,6 +5,8 @@ pub mod fault;
 pub mod figures;
 pub mod row;
 pub mod share;
+#[cfg(test)]
+mod tests;
 pub mod theorems;
 pub mod total;
 pub mod weights;

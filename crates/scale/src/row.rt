@@ -24,6 +24,10 @@ pub impl Scale for RowScale<'_> as RowScaleScale {
     }
 
     fn weight(&self, part: usize) -> u32 {
-        if part >= 1 && part <= self.row.len() { self.row[part - 1] } else { 0 }
+        if part >= 1 && part <= self.row.len() {
+            self.row[part - 1]
+        } else {
+            0
+        }
     }
 }

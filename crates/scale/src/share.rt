@@ -1,7 +1,7 @@
 // An amount shared over a scale: one text for every scale.
 ghost use mathlib.Core.Path.{_≡_};
 ghost use Prim.Native.Nat.{_≤_};
-ghost use lib.ListN.{length};
+ghost use lib.ListN.{length, take};
 ghost use Rattle.std.specs.shelf.Lists.{sum};
 ghost use Rattle.std.specs.Results.{Cases};
 ghost use Rattle.std.specs.Vec.{made};
@@ -47,10 +47,16 @@ pub fn share<S: Scale>(amount: u32, scale: &S, out: &mut [u32]) -> Result<(), Fa
     ensures memory { λ r. ⌜ Cases r (λ _. Shared downTo amount (S·Scale .weights (now (scale .entry))) (now (out .exit))) (λ _. now (out .exit) ≡ now (out .entry)) ⌝ }
 {
     if amount > MOST {
-        return Err(Fault { reason: Reason::FieldOutside, spot: 1 });
+        return Err(Fault {
+            reason: Reason::FieldOutside,
+            spot: 1,
+        });
     }
     if out.len() != scale.length() {
-        return Err(Fault { reason: Reason::ScaleLength, spot: 0 });
+        return Err(Fault {
+            reason: Reason::ScaleLength,
+            spot: 0,
+        });
     }
     let total = total(scale)?;
     spread(amount, total, scale, out);
@@ -58,12 +64,30 @@ pub fn share<S: Scale>(amount: u32, scale: &S, out: &mut [u32]) -> Result<(), Fa
 }
 
 // The row of a contract: its amount over a scale clipped to its hours.
-pub fn fill_row<S: Scale>(amount: u32, scale: &S, first: usize, last: usize, row: &mut [u32]) -> Result<(), Fault>
+pub fn fill_row<S: Scale>(
+    amount: u32,
+    scale: &S,
+    first: usize,
+    last: usize,
+    row: &mut [u32],
+) -> Result<(), Fault>
     ensures answer { λ r. ⌜ refusalOf r ≡ shareCheck amount (length (now (row .entry))) (clipped first last (S·Scale .weights (now (scale .entry)))) ⌝ }
     ensures memory { λ r. ⌜ Cases r (λ _. Shared downTo amount (clipped first last (S·Scale .weights (now (scale .entry)))) (now (row .exit))) (λ _. now (row .exit) ≡ now (row .entry)) ⌝ }
 {
     share(amount, &Clip::new(scale, first, last), row)?;
     Ok(())
+}
+
+// The weight of so many parts from the first on.
+fn weight_of_first<S: Scale>(scale: &S, parts: usize) -> u32
+    requires { ⌜ parts ≤ length (S·Scale .weights (now scale)) ⌝ ∗ ⌜ sum (S·Scale .weights (now scale)) ≤ 2000000000 ⌝ }
+    ensures { λ r. ⌜ r ≡ sum (take parts (S·Scale .weights (now (scale .entry)))) ⌝ }
+{
+    let mut so_far: u32 = 0;
+    for i in 0..parts {
+        so_far += scale.weight(i + 1);
+    }
+    so_far
 }
 
 // What one part of a scale gets, 0 outside it.
@@ -72,17 +96,18 @@ pub fn share_at<S: Scale>(amount: u32, scale: &S, part: usize) -> Result<u32, Fa
     ensures value { λ r. ⌜ made r (λ x. x ≡ weightAt (sharesOf downTo amount (S·Scale .weights (now (scale .entry)))) part) ⌝ }
 {
     if amount > MOST {
-        return Err(Fault { reason: Reason::FieldOutside, spot: 1 });
+        return Err(Fault {
+            reason: Reason::FieldOutside,
+            spot: 1,
+        });
     }
     let total = total(scale)?;
     if part < 1 || part > scale.length() {
         return Ok(0);
     }
-    let mut before: u32 = 0;
-    for i in 1..part {
-        before += scale.weight(i);
-    }
-    Ok(given(amount, total, before + scale.weight(part)) - given(amount, total, before))
+    let before = weight_of_first(scale, part - 1);
+    let upto = before + scale.weight(part);
+    Ok(given(amount, total, upto) - given(amount, total, before))
 }
 
 // The quantity of a contract at an hour: its effective amount over the row scale of its row.

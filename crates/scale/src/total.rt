@@ -22,9 +22,19 @@ pub fn total<S: Scale>(scale: &S) -> Result<u32, Fault>
     for i in 0..scale.length() {
         let weight = scale.weight(i + 1);
         if weight > MOST - so_far {
-            return Err(Fault { reason: Reason::ScaleHeavy, spot: i + 1 });
+            return Err(Fault {
+                reason: Reason::ScaleHeavy,
+                spot: i + 1,
+            });
         }
         so_far += weight;
     }
-    if so_far == 0 { Err(Fault { reason: Reason::ScaleWeightless, spot: 0 }) } else { Ok(so_far) }
+    if so_far == 0 {
+        Err(Fault {
+            reason: Reason::ScaleWeightless,
+            spot: 0,
+        })
+    } else {
+        Ok(so_far)
+    }
 }

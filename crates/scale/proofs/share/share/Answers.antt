@@ -1,4 +1,3 @@
-use mathlib.Core.Path.{sym}
 use native.Mathlib.Omega.{arith}
 use Rattle.scale.specs.Shares.{downTo}
 use Rattle.scale.proofs.Totals.{share-fine}
@@ -9,5 +8,7 @@ pub returns : need.returns
 returns g c =
     let ws = g .S·Scale .weights (c .args .scale .now) in
     let t = c .in-Continue-total .ensures tt in
-    record { answer = sym (share-fine (c .args .amount) _ ws (omega arith) (omega arith) (sym (t .answer)))
-           ; memory = shared-row downTo down-sound (c .args .amount) ws _ (omega arith) (c .spread .ensures) }
+    record {
+      answer = share-fine (c .args .amount) _ ws (omega arith) (omega arith) (t .answer);
+      memory = shared-row downTo down-sound (c .args .amount) ws _ (omega arith) (c .spread .ensures);
+    }

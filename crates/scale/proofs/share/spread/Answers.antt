@@ -11,7 +11,7 @@ use Rattle.scale.proofs.share.spread.Needs as need
 
 -- the weights up to this part
 up-to : (g : _) (c : need.After-weight-weight g) →
-  c .loop-i .weight + c .weight-weight .result ≡ sum (take (c .loop-i .i + 1) (g .S·Scale .weights (c .args .scale .now)))
+    c .loop-i .weight + c .weight-weight .result ≡ sum (take (c .loop-i .i + 1) (g .S·Scale .weights (c .args .scale .now)))
 up-to g c =
     let ws = g .S·Scale .weights (c .args .scale .now) in
     let lt : c .loop-i .i < length ws = omega arith in
@@ -50,10 +50,11 @@ loop-i-again g c =
     let w : c .weight-weight .result ≡ getD ws i 0 = c .weight-weight .ensures ∙ weight-next ws i in
     let y : c .given-upto .result - c .loop-i .before ≡ run (c .loop-i .weight + c .weight-weight .result) - run (c .loop-i .weight) = omega (arith, c .loop-i .inv .1, c .given-upto .ensures) in
     let lt : i < length ws = omega arith in
-    let next = total-next ws i lt in
-    ( omega arith
-    , c .given-upto .ensures
-    , shared-step run ws (c .loop-i .out) _ i (c .loop-i .weight) (c .weight-weight .result) (c .given-upto .result - c .loop-i .before) (omega arith) (omega arith) w y (c .loop-i .inv .2) )
+    let next = total-next ws i lt in (
+      omega arith,
+      c .given-upto .ensures,
+      shared-step run ws (c .loop-i .out) _ i (c .loop-i .weight) (c .weight-weight .result) (c .given-upto .result - c .loop-i .before) (omega arith) (omega arith) w y (c .loop-i .inv .2),
+    )
 
 pub returns : need.returns
 returns g c =

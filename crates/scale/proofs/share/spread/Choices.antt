@@ -10,4 +10,4 @@ Inv-loop-i g l =
     (l .weight ≡ sum (take (l .i) (g .S·Scale .weights (l .scale))))
     × (l .before ≡ downTo (l .amount) (l .total) (l .weight))
     × (take (l .i) (l .out) ++ sharedBy (downTo (l .amount) (l .total)) (l .weight) (drop (l .i) (g .S·Scale .weights (l .scale)))
-        ≡ sharesOf downTo (l .amount) (g .S·Scale .weights (l .scale)))
+    ≡ sharesOf downTo (l .amount) (g .S·Scale .weights (l .scale)))
