@@ -16,7 +16,10 @@ pub impl Joining for BySource as BySourceJoining {
     ghost joined = { plusBoth };
 
     fn empty() -> BySource {
-        BySource { conventional: 0, incentivised: 0 }
+        BySource {
+            conventional: 0,
+            incentivised: 0,
+        }
     }
 
     fn join(self, other: BySource) -> BySource {
@@ -34,8 +37,14 @@ pub impl Reversible for BySource as BySourceReversible {
 
     fn of_quantity(quantity: u32, source: Source) -> BySource {
         match source {
-            Source::Conventional => BySource { conventional: quantity as i64, incentivised: 0 },
-            Source::Incentivised => BySource { conventional: 0, incentivised: quantity as i64 },
+            Source::Conventional => BySource {
+                conventional: quantity as i64,
+                incentivised: 0,
+            },
+            Source::Incentivised => BySource {
+                conventional: 0,
+                incentivised: quantity as i64,
+            },
         }
     }
 

@@ -4,6 +4,7 @@ use book::sizes::Sizes;
 use std::marker::PhantomData;
 
 pub mod closing;
+pub mod opening;
 
 // An open month takes offers, confirmations, endings and shortfalls.
 pub struct Open {}
