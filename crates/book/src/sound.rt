@@ -1,10 +1,12 @@
 // Whether a book that is handed in is sound.
 ghost use mathlib.Core.Path.{_≡_};
-ghost use mathlib.Core.Bool.{_&&_};
+ghost use mathlib.Core.Bool.{true};
 ghost use Prim.Native.Nat.{ℕ, _+_, _≤_};
 ghost use lib.Dec.{leb};
 ghost use lib.ListN.{length, getD, set, take, drop};
+ghost use Rattle.book.specs.Limits.{mostTotal};
 ghost use Rattle.book.specs.Sound.{SoundBook, allModerate, bookCheck, soldBy, soundAlone};
+ghost use Rattle.book.specs.Terms.{Acceptable, fields};
 ghost use Rattle.scale.specs.Refusals.{refusalOf};
 ghost use Rattle.std.specs.Vec.{made};
 ghost use Rattle.std.specs.shelf.Lists.{sum};
@@ -41,10 +43,25 @@ fn all_moderate(shortfalls: &[u64]) -> bool
 // Whether a contract is sound as far as it and its row tell.
 fn sound_alone(sizes: &Sizes, row: &[u32], contract: &Contract) -> bool
     requires { ⌜ length (now row) ≤ 744 ⌝ }
-    ensures { λ r. ⌜ r ≡ soundAlone (now (sizes .entry)) (now (row .entry)) (now (contract .entry)) ⌝ }
+    ensures sound { λ r. ⌜ r ≡ soundAlone (now (sizes .entry)) (now (row .entry)) (now (contract .entry)) ⌝ }
+    ensures terms { λ r. ⌜ (r ≡ true → Acceptable (now (sizes .entry)) (fields (now (contract .entry) .terms))) ⌝ }
 {
     let terms = &contract.terms;
     terms.fields().check(sizes).is_ok()
         && contract.effective <= terms.amount
         && (!contract.in_force() || row_total(row) == terms.amount as u64)
+}
+
+// Adds a contract's amount, if it is in force, to the total of its seller, and says whether that is still within the limit.
+fn tally(totals: &mut [u64; 65], contract: &Contract) -> bool
+    requires seller { ⌜ now contract .terms .seller ≤ 64 ⌝ }
+    requires moderate { ⌜ getD (now totals) (now contract .terms .seller) 0 ≤ mostTotal ⌝ }
+    ensures within { λ r. ⌜ r ≡ leb (getD (now (totals .exit)) (now (contract .entry) .terms .seller) 0) mostTotal ⌝ }
+    ensures after { λ _. ⌜ ((s : ℕ) → s ≤ 64 → getD (now (totals .exit)) s 0 ≡ getD (now (totals .entry)) s 0 + soldBy s (now (contract .entry))) ⌝ }
+{
+    let seller = contract.terms.seller as usize;
+    if contract.in_force() {
+        totals[seller] += contract.terms.amount as u64;
+    }
+    totals[seller] <= MOST_TOTAL
 }
