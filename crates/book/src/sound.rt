@@ -65,3 +65,35 @@ fn tally(totals: &mut [u64; 65], contract: &Contract) -> bool
     }
     totals[seller] <= MOST_TOTAL
 }
+
+// Refuses an unsound book: a shortfall above the limit, or else the first taken place that breaks a rule. One pass over the places.
+pub fn examine(
+    sizes: &Sizes,
+    taken: &[Contract],
+    rows: &[u32],
+    shortfalls: &[u64],
+) -> Result<(), Fault>
+    ensures refused { λ r. ⌜ refusalOf r ≡ bookCheck (now (sizes .entry)) (now (taken .entry)) (now (rows .entry)) (now (shortfalls .entry)) ⌝ }
+    ensures sound { λ r. ⌜ made r (λ _. SoundBook (now (sizes .entry)) (now (taken .entry)) (now (rows .entry)) (now (shortfalls .entry))) ⌝ }
+{
+    if !all_moderate(shortfalls) {
+        return Err(Fault {
+            reason: Reason::UnsoundBook,
+            spot: 0,
+        });
+    }
+    let hours = sizes.hours() as usize;
+    let mut totals = [0u64; 65];
+    let mut rest = rows;
+    for (i, contract) in taken.iter().enumerate() {
+        let (row, after) = rest.split_at(hours.min(rest.len()));
+        rest = after;
+        if !sound_alone(sizes, row, contract) || !tally(&mut totals, contract) {
+            return Err(Fault {
+                reason: Reason::UnsoundBook,
+                spot: i + 1,
+            });
+        }
+    }
+    Ok(())
+}
