@@ -14,7 +14,7 @@ use Rattle.std.specs.declared.option.Option.the-variants.{Some, None}
 use Rattle.std.specs.shelf.Lists.{sum, sumBy}
 use Rattle.std.proofs.shelf.Lists.{at-drop-more, drop-all, drop-drop, take-all, length-drop}
 use Rattle.std.proofs.shelf.Sums.{sumBy-more}
-use Rattle.std.proofs.shelf.Tests.{le-leb, lt-leb, leb-true, eqb-true, eqb-false, ne-eqb, and-parts, not-true, cases-eq, both-ways, cases-lt, cond-false, and-right, or-cases}
+use Rattle.std.proofs.shelf.Tests.{leb-true, eqb-true, eqb-false, ne-eqb, and-parts, not-true, cases-eq, both-ways, cases-lt, cond-false, and-right, or-cases}
 use Rattle.scale.specs.Refusals.{Refusal, refusal, unless, firstOf}
 use Rattle.book.specs.Limits.{between, mostTotal}
 use Rattle.book.specs.Sound.{SoundBook, SoundPlace, allModerate, bookCheck, placeChecks, rowOf, sellerTotal, soldBy, soundAlone, soundPlace}
@@ -24,13 +24,13 @@ use Rattle.book.specs.declared.contract.Contract.{Contract}
 use Rattle.book.specs.declared.contract.Offer.{Offer}
 use Rattle.book.specs.declared.sizes.Sizes.{Sizes}
 
-pub moderate-more : (xs : List ℕ) (i : ℕ) → i < length xs → getD xs i 0 ≤ mostTotal → allModerate (drop i xs) ≡ allModerate (drop (i + 1) xs)
+pub moderate-more : (xs : List ℕ) (i : ℕ) → i < length xs → leb (getD xs i 0) mostTotal ≡ true → allModerate (drop i xs) ≡ allModerate (drop (i + 1) xs)
 moderate-more xs i lt h =
-    at-drop-more allModerate xs i 0 lt ∙ ap (λ (b : Bool). b && allModerate (drop (i + 1) xs)) (le-leb _ _ h)
+    at-drop-more allModerate xs i 0 lt ∙ ap (λ (b : Bool). b && allModerate (drop (i + 1) xs)) h
 
-pub moderate-not : (xs : List ℕ) (i : ℕ) → i < length xs → mostTotal < getD xs i 0 → allModerate (drop i xs) ≡ false
+pub moderate-not : (xs : List ℕ) (i : ℕ) → i < length xs → leb (getD xs i 0) mostTotal ≡ false → allModerate (drop i xs) ≡ false
 moderate-not xs i lt h =
-    at-drop-more allModerate xs i 0 lt ∙ ap (λ (b : Bool). b && allModerate (drop (i + 1) xs)) (lt-leb _ _ h)
+    at-drop-more allModerate xs i 0 lt ∙ ap (λ (b : Bool). b && allModerate (drop (i + 1) xs)) h
 
 -- a check that holds, and one that does not
 pub passes : (b : Bool) (n s : ℕ) (rest : List (Option Refusal)) → b ≡ true → firstOf (unless b n s ∷ rest) ≡ firstOf rest

@@ -28,12 +28,19 @@ fn row_total(row: &[u32]) -> u64
     total
 }
 
+// Whether a shortfall, or a seller's total, is within the limit.
+fn moderate(total: u64) -> bool
+    ensures { λ r. ⌜ r ≡ leb total mostTotal ⌝ }
+{
+    total <= MOST_TOTAL
+}
+
 // Whether no shortfall passes the limit.
 fn all_moderate(shortfalls: &[u64]) -> bool
     ensures { λ r. ⌜ r ≡ allModerate (now (shortfalls .entry)) ⌝ }
 {
     for shortfall in shortfalls {
-        if *shortfall > MOST_TOTAL {
+        if !moderate(*shortfall) {
             return false;
         }
     }
@@ -63,7 +70,7 @@ fn tally(totals: &mut [u64; 65], contract: &Contract) -> bool
     if contract.in_force() {
         totals[seller] += contract.terms.amount as u64;
     }
-    totals[seller] <= MOST_TOTAL
+    moderate(totals[seller])
 }
 
 // Refuses an unsound book: a shortfall above the limit, or else the first taken place that breaks a rule. One pass over the places.
