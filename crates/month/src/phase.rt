@@ -4,7 +4,9 @@ use book::sizes::Sizes;
 use std::marker::PhantomData;
 
 pub mod closing;
+mod admission;
 pub mod opening;
+pub mod offering;
 
 // An open month takes offers, confirmations, endings and shortfalls.
 pub struct Open {}
