@@ -1,3 +1,0 @@
-pub mod Lanes
-pub mod Board
-pub mod Law
