@@ -18,6 +18,10 @@ pub first-none : (x : Option Refusal) (xs : List (Option Refusal)) → x ≡ Non
 first-none None xs e = refl
 first-none (Some r) xs e = refused e
 
+pub first-some : (x : Option Refusal) (xs : List (Option Refusal)) (r : Refusal) → x ≡ Some r → firstOf (x ∷ xs) ≡ Some r
+first-some None xs r e = refused (sym e)
+first-some (Some q) xs r e = e
+
 -- all checks passed: so did the first, and so did the others
 pub passed : (x : Option Refusal) (xs : List (Option Refusal)) → firstOf (x ∷ xs) ≡ None → (x ≡ None) × (firstOf xs ≡ None)
 passed None xs e = (refl, e)
