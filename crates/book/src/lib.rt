@@ -1,6 +1,6 @@
 // The book of one month: contracts at their places, and what a sound book is.
 pub mod contract;
-mod limit;
+pub mod limit;
 pub mod lookup;
 pub mod sizes;
 pub mod sound;

@@ -2,12 +2,14 @@
 use mathlib.Core.Path.{_≡_, refl, sym, _∙_}
 use mathlib.Core.Bool.{Bool, true, false}
 use mathlib.Core.List.{List, [], _∷_}
-use Prim.Native.Nat.{ℕ, _*_}
+use Prim.Native.Nat.{ℕ, _*_, _≤_}
 use native.Mathlib.Omega.{arith}
 use Rattle.std.specs.declared.option.Option.{Option}
 use Rattle.std.specs.declared.option.Option.the-variants.{Some, None}
-use Rattle.std.proofs.shelf.Tests.{eqb-true}
+use lib.Dec.{leb}
+use Rattle.std.proofs.shelf.Tests.{eqb-true, leb-true, and-parts}
 use Rattle.scale.specs.Refusals.{Refusal, refusal, unless, firstOf}
+use Rattle.book.specs.Limits.{between}
 use Rattle.ledger.specs.Checks.{lengthCheck}
 
 refused : {X : Type 0} {r : Refusal} → _≡_ {A = Option Refusal} (Some r) None → X
@@ -54,3 +56,9 @@ long agents hours size places rows shortfalls board e =
       shortfalls = eqb-true _ _ (held _ 1 3 (r .0));
       board = eqb-true _ _ (held _ 1 4 (s .0));
     }
+
+-- a number that passed lies within its limits
+pub within : (low high x n s : ℕ) → None ≡ unless (between low high x) n s → (low ≤ x) × (x ≤ high)
+within low high x n s e =
+    let p = and-parts (leb low x) (leb x high) (held _ n s (sym e)) in
+    (leb-true low x (p .0), leb-true x high (p .1))

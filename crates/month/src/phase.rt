@@ -7,6 +7,7 @@ pub mod closing;
 mod admission;
 pub mod opening;
 pub mod offering;
+pub mod questions;
 
 // An open month takes offers, confirmations, endings and shortfalls.
 pub struct Open {}
