@@ -1,1 +1,6 @@
 pub mod Refusals
+pub mod Weights
+pub mod Totals
+pub mod Shares
+pub mod Fairness
+pub mod Figures
