@@ -1,4 +1,5 @@
 // The book of one month: contracts at their places, and what a sound book is.
+pub mod classes;
 pub mod contract;
 pub mod limit;
 pub mod lookup;
@@ -6,3 +7,5 @@ pub mod sizes;
 pub mod sound;
 pub mod states;
 pub mod terms;
+#[cfg(test)]
+mod tests;
