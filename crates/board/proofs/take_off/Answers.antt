@@ -1,5 +1,8 @@
 use mathlib.Core.Path.{_≡_, sym, ap, _∙_}
 use mathlib.Core.Bool.{true}
+use mathlib.Core.Logic.{_≢_}
+use Prim.Native.Nat.{_+_, _*_, _≤_}
+use borrow.Author.Needs.{needs}
 use lib.ListN.{length, getD}
 use Rattle.std.proofs.shelf.Tests.{true≢false}
 use Rattle.entry.specs.Kinds.{meaning, values, Laws, joins}
@@ -16,11 +19,10 @@ transfer-requires g c κs =
     let n = length (c .args .board .now) in
     let h = length (c .args .quantities .now) in
     let fit : Fit (roomFor n h) d = fit-from _ d (ap (λ a. fitting a d) (sym (c .room-for-agents .ensures)) ∙ sym (c .is-fitting .ensures) ∙ c .if-not-is-fitting .left) in
-    record {
-      apart = λ e. lanes-apart n h fit (sym (c .lane-sells .ensures) ∙ sym e ∙ c .lane-buys .ensures);
-      leaves = rw (c .lane-buys .ensures) (buyer-within n h fit);
-      enters = rw (c .lane-sells .ensures) (seller-within n h fit);
-    }
+    let sells : (c .lane-sells .result + 1) * h ≤ n = rw (c .lane-sells .ensures) (seller-within n h fit) in
+    let buys : (c .lane-buys .result + 1) * h ≤ n = rw (c .lane-buys .ensures) (buyer-within n h fit) in
+    let differ : c .lane-sells .result ≢ c .lane-buys .result = λ e. lanes-apart n h fit (sym (c .lane-sells .ensures) ∙ e ∙ c .lane-buys .ensures) in
+    record { apart = λ e. differ (cc); leaves = search needs; enters = search needs }
 
 pub returns : need.returns
 returns g c =
