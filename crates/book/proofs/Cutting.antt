@@ -10,8 +10,8 @@ use native.Mathlib.Omega.{arith}
 use lib.Dec.{eqb, leb}
 use lib.ListN.{length, getD, take}
 use Rattle.std.specs.shelf.Lists.{sum, sumBy}
-use Rattle.std.proofs.shelf.Lists.{length-map, take-all}
-use Rattle.std.proofs.shelf.Sums.{sumBy-cons, sumBy-more, sum-map}
+use Rattle.std.proofs.shelf.Lists.{length-map, getD-map, take-all}
+use Rattle.std.proofs.shelf.Sums.{sumBy-cons, sumBy-more}
 use Rattle.std.proofs.shelf.Tests.{cases-lt, cases-eq, cond-both, cond-true, cond-false, and-right, ne-eqb, le-leb, lt-leb}
 use Rattle.scale.specs.Shares.{Rule, Sound, Running, sharedBy, sharesOf}
 use Rattle.scale.proofs.Running.{below-next, length-shared, of-total}
@@ -218,6 +218,23 @@ pub class-total-most : (seller class : ℕ) (cs : List Contract) → classTotal 
 class-total-most seller class [] = omega arith
 class-total-most seller class (c ∷ cs) =
     omega (arith, sumBy-cons (λ x. x) (weight seller class (claimOf c)) (classWeights seller class (map claimOf cs)), sumBy-cons (soldBy seller) c cs, sold-weight seller class c, class-total-most seller class cs)
+
+-- the same, for the contracts that the claims are of
+
+pub class-total-sum : (seller class : ℕ) (cs : List Contract) → classTotal seller (map claimOf cs) class ≡ sumBy (λ c. weight seller class (claimOf c)) cs
+class-total-sum seller class [] = refl
+class-total-sum seller class (c ∷ cs) =
+    omega (arith, sumBy-cons (λ x. x) (weight seller class (claimOf c)) (classWeights seller class (map claimOf cs)), sumBy-cons (λ x. weight seller class (claimOf x)) c cs, class-total-sum seller class cs)
+
+pub effective-of-place : (rule : Rule) (short : ℕ) (cs : List Contract) (i : ℕ) (d : Contract) → i < length cs →
+    effectiveAt rule short (map claimOf cs) i
+    ≡ getD cs i d .terms .amount - getD (cutShares rule short (getD cs i d .terms .seller) (map claimOf cs) (classNumber (getD cs i d .terms .class))) i 0
+effective-of-place rule short cs i d less =
+    ap (λ (c : Claim). c .amount - getD (cutShares rule short (c .seller) (map claimOf cs) (c .class)) i 0) (getD-map claimOf cs i d noClaim less)
+
+pub effective-of-place-most : (rule : Rule) (short : ℕ) (cs : List Contract) (i : ℕ) (d : Contract) → i < length cs →
+    effectiveAt rule short (map claimOf cs) i ≤ getD cs i d .terms .amount
+effective-of-place-most rule short cs i d less = omega (arith, effective-of-place rule short cs i d less)
 
 -- in a sound book
 module _ (sizes : Sizes) (taken : List Contract) (rows shortfalls : List ℕ) (book : SoundBook sizes taken rows shortfalls) (seller : ℕ) where

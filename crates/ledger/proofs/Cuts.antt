@@ -34,8 +34,8 @@ claimsIn b = map claimIn (b .lines)
 pub eqb-turned : (a b : ℕ) → eqb a b ≡ eqb b a
 eqb-turned a b =
     elim (cases-eq a b) [
-      inl same ↦ eq-eqb a b same ∙ sym (eq-eqb b a (sym same))
-    | inr other ↦ ne-eqb a b other ∙ sym (ne-eqb b a (λ e. other (sym e)))
+      | inl same ↦ eq-eqb a b same ∙ sym (eq-eqb b a (sym same))
+      | inr other ↦ ne-eqb a b other ∙ sym (ne-eqb b a (λ e. other (sym e)))
     ]
 
 pub claim-at : (b : Ledger) (i : ℕ) → getD (claimsIn b) i noClaim ≡ claimIn (lineAt b i)
@@ -70,7 +70,7 @@ module _ (b : Ledger) (seller class : ℕ) where
   weight-of-line i =
       ap (weight seller class) (claim-at b i)
       ∙ ap (λ (t : Bool). cond (stands (lineAt b i) && (eqb (lineAt b i .fields .seller) seller && t)) (lineAt b i .fields .amount) 0)
-        (eqb-turned (lineAt b i .fields .class) class)
+      (eqb-turned (lineAt b i .fields .class) class)
 
   pub amounts-of-class : amountsIn b seller (eqb class) ≡ classTotal seller (claimsIn b) class
   amounts-of-class =
@@ -86,22 +86,22 @@ module _ (b : Ledger) (seller class : ℕ) where
       taken-off (stands (lineAt b i)) (eqb (lineAt b i .fields .seller) seller) (eqb class (lineAt b i .fields .class)) (lineAt b i .fields .amount) (effectiveIn b i)
       (getD (cutShares rounding (b .shortfall seller) seller (claimsIn b) class) i 0)
       (subst (λ (w : ℕ). getD (cutShares rounding (b .shortfall seller) seller (claimsIn b) class) i 0 ≤ w) (weight-of-line i)
-        (cut-weight rounding (b .shortfall seller) seller (claimsIn b) class down-sound i))
+      (cut-weight rounding (b .shortfall seller) seller (claimsIn b) class down-sound i))
       (λ own kind. effective-of-line b seller class i (eqb-true _ _ own) (sym (eqb-true _ _ kind)))
 
   pub cuts-of-class : cutsIn b seller (eqb class) ≡ classCut (b .shortfall seller) (classTotal seller (claimsIn b)) class
   cuts-of-class =
       sumTo-same (length (b .lines)) _ (λ i. getD (cutShares rounding (b .shortfall seller) seller (claimsIn b) class) i 0) (λ i h. cut-of-line i)
       ∙ sumTo-list (λ x. x) (cutShares rounding (b .shortfall seller) seller (claimsIn b) class) 0 (length (b .lines))
-        (sym (cut-length rounding (b .shortfall seller) seller (claimsIn b) class ∙ length-map (b .lines) claimIn))
+      (sym (cut-length rounding (b .shortfall seller) seller (claimsIn b) class ∙ length-map (b .lines) claimIn))
       ∙ cut-total rounding (b .shortfall seller) seller (claimsIn b) class down-sound
 
 -- an amount counts in one of four classes, and in one of the first three if its class is one of those
 pub by-class : (stands own : Bool) (class a : ℕ) → (stands ≡ true → (1 ≤ class) × (class ≤ 4)) →
     (cond (stands && (own && true)) a 0
-      ≡ cond (stands && (own && eqb 1 class)) a 0 + cond (stands && (own && eqb 2 class)) a 0 + cond (stands && (own && eqb 3 class)) a 0 + cond (stands && (own && eqb 4 class)) a 0)
+    ≡ cond (stands && (own && eqb 1 class)) a 0 + cond (stands && (own && eqb 2 class)) a 0 + cond (stands && (own && eqb 3 class)) a 0 + cond (stands && (own && eqb 4 class)) a 0)
     × (cond (stands && (own && leb class 3)) a 0
-      ≡ cond (stands && (own && eqb 1 class)) a 0 + cond (stands && (own && eqb 2 class)) a 0 + cond (stands && (own && eqb 3 class)) a 0)
+    ≡ cond (stands && (own && eqb 1 class)) a 0 + cond (stands && (own && eqb 2 class)) a 0 + cond (stands && (own && eqb 3 class)) a 0)
 by-class false own class a h = (refl, refl)
 by-class true false class a h = (refl, refl)
 by-class true true zero a h = (omega (arith, h refl), omega (arith, h refl))
@@ -119,19 +119,19 @@ module _ (b : Ledger) (classed : Classed b) (seller : ℕ) where
   pub cuts-by-class : cutsIn b seller (λ c. true) ≡ cutsIn b seller (eqb 1) + cutsIn b seller (eqb 2) + cutsIn b seller (eqb 3) + cutsIn b seller (eqb 4)
   cuts-by-class =
       sumTo-four (length (b .lines)) _ _ _ _ _ (λ i h.
-        by-class (stands (lineAt b i)) (eqb (lineAt b i .fields .seller) seller) (lineAt b i .fields .class) (lineAt b i .fields .amount - effectiveIn b i) (classed i h) .0)
+      by-class (stands (lineAt b i)) (eqb (lineAt b i .fields .seller) seller) (lineAt b i .fields .class) (lineAt b i .fields .amount - effectiveIn b i) (classed i h) .0)
 
   pub amounts-by-class : amountsIn b seller (λ c. leb c 3) ≡ amountsIn b seller (eqb 1) + amountsIn b seller (eqb 2) + amountsIn b seller (eqb 3)
   amounts-by-class =
       sumTo-three (length (b .lines)) _ _ _ _ (λ i h.
-        by-class (stands (lineAt b i)) (eqb (lineAt b i .fields .seller) seller) (lineAt b i .fields .class) (lineAt b i .fields .amount) (classed i h) .1)
+      by-class (stands (lineAt b i)) (eqb (lineAt b i .fields .seller) seller) (lineAt b i .fields .class) (lineAt b i .fields .amount) (classed i h) .1)
 
   -- a seller's cuts come to the lesser of its shortfall and its amounts in the first three classes
   pub cuts : cutsIn b seller (λ c. true) ≡ min (b .shortfall seller) (amountsIn b seller (λ c. leb c 3))
   cuts =
       let t : ℕ → ℕ = classTotal seller (claimsIn b) in
       let all : cutsIn b seller (λ c. true) ≡ min (b .shortfall seller) (t 1 + t 2 + t 3) =
-          cuts-by-class ∙ ap4 (cuts-of-class b seller 1) (cuts-of-class b seller 2) (cuts-of-class b seller 3) (cuts-of-class b seller 4) ∙ cuts-together (b .shortfall seller) t in
+      cuts-by-class ∙ ap4 (cuts-of-class b seller 1) (cuts-of-class b seller 2) (cuts-of-class b seller 3) (cuts-of-class b seller 4) ∙ cuts-together (b .shortfall seller) t in
       all ∙ ap (min (b .shortfall seller)) (sym (amounts-by-class ∙ ap3 (amounts-of-class b seller 1) (amounts-of-class b seller 2) (amounts-of-class b seller 3)))
 
 -- a class is cut only where every class before it is cut whole
@@ -140,7 +140,7 @@ pub inTurn : (b : Ledger) (seller class earlier : ℕ) → 1 ≤ earlier → ear
 inTurn b seller class earlier first before cut =
     cuts-of-class b seller earlier
     ∙ class-in-turn (b .shortfall seller) (classTotal seller (claimsIn b)) class earlier first before
-      (subst (λ (x : ℕ). 0 < x) (cuts-of-class b seller class) cut)
+    (subst (λ (x : ℕ). 0 < x) (cuts-of-class b seller class) cut)
     ∙ sym (amounts-of-class b seller earlier)
 
 -- what is left of a contract's amount is delivered: in all, and near its exact share at every run of hours
@@ -161,5 +161,5 @@ delivered b i row pos some =
           (fairly .again amount e weights pos some most first count);
       uncut = λ same first count. subst (λ (qs : List ℕ). Within (sum weights) (stretch first count qs * sum weights) (e * stretch first count weights)) quantities
           (subst (λ (x : ℕ). Within (sum weights) (stretch first count (sharesOf rounding x (sharesOf rounding amount weights)) * sum weights) (x * stretch first count weights)) (sym same)
-            (fairly .whole-near amount weights pos some first count));
+          (fairly .whole-near amount weights pos some first count));
     }
