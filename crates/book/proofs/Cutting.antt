@@ -1,9 +1,9 @@
 -- What a cut takes off contracts: no more than is there, and all that is due.
-use mathlib.Core.Path.{_≡_, refl, ap, sym, _∙_, subst}
+use mathlib.Core.Path.{_≡_, refl, ap, _∙_, subst}
 use mathlib.Core.Bool.{Bool, true, false, cond, _&&_}
 use mathlib.Core.List.{List, [], _∷_, map}
-use mathlib.Core.Logic.{_⊎_, inl, inr}
-use Prim.Native.Nat.{ℕ, zero, suc, _+_, _-_, _*_, _≤_, _<_, min}
+use mathlib.Core.Logic.{inl, inr}
+use Prim.Native.Nat.{ℕ, zero, suc, _+_, _-_, _≤_, _<_, min}
 use native.Mathlib.Nat.{mul-add, add-mul, mul-le-mul-right, add-zero}
 use native.Mathlib.Numerals.{add-one}
 use native.Mathlib.Omega.{arith}
@@ -36,10 +36,6 @@ pub part-in-sum : (ws : List ℕ) (i : ℕ) → getD ws i 0 ≤ sum ws
 part-in-sum [] i = omega arith
 part-in-sum (w ∷ ws) zero = omega (arith, sumBy-cons (λ x. x) w ws)
 part-in-sum (w ∷ ws) (suc i) = omega (arith, sumBy-cons (λ x. x) w ws, part-in-sum ws i)
-
-pub sum-most : {X : Type 0} (f g : X → ℕ) → ((x : X) → f x ≤ g x) → (xs : List X) → sumBy f xs ≤ sumBy g xs
-sum-most f g le [] = omega arith
-sum-most f g le (x ∷ xs) = omega (arith, sumBy-cons f x xs, sumBy-cons g x xs, le x, sum-most f g le xs)
 
 -- shares
 

@@ -1,24 +1,24 @@
 -- The cuts of a ledger: they come to the shortfall, class after class, and what is delivered is fair.
 use mathlib.Core.Path.{_≡_, refl, ap, sym, _∙_, subst}
 use mathlib.Core.Bool.{Bool, true, false, cond, _&&_}
-use mathlib.Core.List.{List, [], _∷_, map}
-use mathlib.Core.Logic.{_⊎_, inl, inr}
+use mathlib.Core.List.{List, map}
+use mathlib.Core.Logic.{inl, inr}
 use Prim.Native.Nat.{ℕ, zero, suc, _+_, _-_, _*_, _≤_, _<_, min}
 use native.Mathlib.Omega.{arith}
 use lib.Dec.{eqb, leb}
 use lib.ListN.{length, getD}
-use Rattle.std.specs.shelf.Lists.{sum, sumBy}
+use Rattle.std.specs.shelf.Lists.{sum}
 use Rattle.std.proofs.shelf.Lists.{length-map}
 use Rattle.std.proofs.shelf.Sums.{sum-map}
-use Rattle.std.proofs.shelf.Tests.{cases-eq, cond-true, cond-false, and-right, eq-eqb, ne-eqb, eqb-true}
-use Rattle.scale.specs.Shares.{Sound, Within, sharesOf, stretch}
+use Rattle.std.proofs.shelf.Tests.{cases-eq, eq-eqb, ne-eqb, eqb-true}
+use Rattle.scale.specs.Shares.{Within, sharesOf, stretch}
 use Rattle.scale.specs.Fairness.{Fair}
 use Rattle.scale.proofs.Running.{down-sound, fair}
-use Rattle.book.specs.Cuts.{Claim, noClaim, weight, classWeights, classTotal, classCut, cutShares, effectiveAt}
+use Rattle.book.specs.Cuts.{Claim, noClaim, weight, classTotal, classCut, cutShares}
 use Rattle.book.proofs.Cutting.{getD-map-at, cut-length, cut-weight, cut-total, class-in-turn, cuts-together, effective-most}
-use Rattle.ledger.specs.Balance.{sumTo, amountsIn, cutsIn, Delivered}
+use Rattle.ledger.specs.Balance.{amountsIn, cutsIn, Delivered}
 use Rattle.ledger.specs.Calls.{rounding}
-use Rattle.ledger.specs.Past.{Line, Ledger, lineAt, noLine, stands, claimIn, effectiveIn, quantitiesIn}
+use Rattle.ledger.specs.Past.{Ledger, lineAt, noLine, stands, claimIn, effectiveIn, quantitiesIn}
 use Rattle.ledger.proofs.Sums.{sumTo-same, sumTo-list, sumTo-three, sumTo-four}
 
 ap3 : {a b c d e f : ℕ} → a ≡ d → b ≡ e → c ≡ f → a + b + c ≡ d + e + f
