@@ -9,6 +9,8 @@ use Rattle.book.specs.declared.contract.Contract.{Contract}
 use Rattle.book.specs.declared.sizes.Sizes.{Sizes}
 use Rattle.book.specs.States.{inForce}
 use Rattle.ledger.specs.Boards.{lane}
+use Rattle.ledger.specs.States.{State, contracts}
+use Rattle.month.specs.Page.{certificateLine}
 
 -- where an agent's entry at a submarket and hour stands on the board, all from 1
 abbrev pub entryIndex : Sizes → ℕ → ℕ → ℕ → ℕ
@@ -27,3 +29,7 @@ sold agent cs = sumBy (soldIn agent) cs
 
 abbrev pub bought : ℕ → List Contract → ℕ
 bought agent cs = sumBy (boughtIn agent) cs
+
+-- the certificate line of an agent, from the month's contracts
+abbrev pub certified : {V : Type 0} → State V → ℕ → List ℕ
+certified s agent = certificateLine agent (sold agent (contracts s)) (bought agent (contracts s))

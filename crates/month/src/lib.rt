@@ -2,3 +2,4 @@
 mod lengths;
 mod page;
 pub mod phase;
+mod turnover;

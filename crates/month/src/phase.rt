@@ -3,6 +3,7 @@ ghost use Prim.Native.Nat.{_≤_};
 use book::sizes::Sizes;
 use std::marker::PhantomData;
 
+pub mod certifying;
 pub mod closing;
 mod admission;
 pub mod opening;

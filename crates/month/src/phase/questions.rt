@@ -1,17 +1,18 @@
 // Questions that open and closed months answer. They alter nothing.
 ghost use mathlib.Core.Path.{_≡_};
-ghost use Prim.Native.Nat.{_*_, _+_, _-_, suc};
+ghost use Prim.Native.Nat.{_≤_, suc};
 ghost use lib.ListN.{length, getD};
 ghost use Rattle.std.specs.Vec.{made};
 ghost use Rattle.scale.specs.Refusals.{refusalOf};
 ghost use Rattle.entry.specs.Kinds.{joinsIn, upTo, values};
 ghost use Rattle.book.specs.Lookup.{placeOf};
-ghost use Rattle.ledger.specs.Checks.{admitted, balanceRefusal, positionRefusal};
+ghost use Rattle.ledger.specs.Checks.{admitted, balanceRefusal, positionRefusal, turnoverRefusal};
 ghost use Rattle.ledger.specs.States.{contracts};
 ghost use Rattle.month.specs.Months.{stateOf};
-ghost use Rattle.month.specs.Questions.{entryIndex};
+ghost use Rattle.month.specs.Questions.{entryIndex, sold, bought};
 use super::Month;
 use crate::lengths::check_board;
+use crate::turnover::turnover_over;
 use book::contract::Contract;
 use book::contract::Number;
 use book::limit::limit;
@@ -57,5 +58,18 @@ impl<P> Month<P> {
         limit(hour as u32, 1, hours as u32, Reason::FieldOutside, 2)?;
         let first = (submarket as usize - 1) * hours + (hour as usize - 1);
         Ok(total(board, first, 4 * hours, self.sizes.agents() as usize))
+    }
+
+    // What an agent sold and bought: the effective amounts of its contracts in force.
+    pub fn turnover<E: Joining>(&self, places: &[Contract], rows: &[u32], shortfalls: &[u64], board: &[E], agent: u16) -> Result<(u64, u64), Fault>
+        ensures answer { λ r. ⌜ refusalOf r ≡ turnoverRefusal (stateOf E·Joining (now (self .entry)) (now (places .entry)) (now (rows .entry)) (now (shortfalls .entry)) (now (board .entry))) agent ⌝ }
+        ensures amounts { λ r. ⌜ made r (λ t. (t .0 ≡ sold agent (contracts (stateOf E·Joining (now (self .entry)) (now (places .entry)) (now (rows .entry)) (now (shortfalls .entry)) (now (board .entry)))))
+            × (t .1 ≡ bought agent (contracts (stateOf E·Joining (now (self .entry)) (now (places .entry)) (now (rows .entry)) (now (shortfalls .entry)) (now (board .entry)))))) ⌝ }
+        ensures most { λ r. ⌜ made r (λ t. (t .0 ≤ 256000000000) × (t .1 ≤ 256000000000)) ⌝ }
+    {
+        self.admit(places, rows, shortfalls, board)?;
+        limit(agent as u32, 1, self.sizes.agents() as u32, Reason::FieldOutside, 1)?;
+        let turnover = turnover_over(&places[0..self.taken as usize], agent);
+        Ok((turnover.sold, turnover.bought))
     }
 }
