@@ -4,13 +4,13 @@ use Rattle.book.specs.Sound.{allModerate}
 use Rattle.book.proofs.Checking.{moderate-more, moderate-not}
 use Rattle.book.proofs.sound.all_moderate.Needs as need
 
-pub returns-then-shortfall-gt-MOST-TOTAL : need.returns-then-shortfall-gt-MOST-TOTAL
-returns-then-shortfall-gt-MOST-TOTAL c =
-    sym (moderate-not _ _ (c .loop-shortfall-test .taken) (c .if-shortfall-gt-MOST-TOTAL .taken)) ∙ c .loop-shortfall .inv
+pub returns-then-not-moderate : need.returns-then-not-moderate
+returns-then-not-moderate c =
+    sym (moderate-not _ _ (c .loop-shortfall-test .taken) (sym (c .if-not-moderate .ensures tt))) ∙ c .loop-shortfall .inv
 
 pub loop-shortfall-again : need.loop-shortfall-again
 loop-shortfall-again c =
-    sym (moderate-more _ _ (c .loop-shortfall-test .taken) (c .if-shortfall-gt-MOST-TOTAL .left)) ∙ c .loop-shortfall .inv
+    sym (moderate-more _ _ (c .loop-shortfall-test .taken) (sym (c .if-not-moderate .ensures tt))) ∙ c .loop-shortfall .inv
 
 pub returns : need.returns
 returns c = sym (at-drop-all allModerate _ _ (c .loop-shortfall-test .left)) ∙ c .loop-shortfall .inv
