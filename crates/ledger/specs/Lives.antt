@@ -31,6 +31,10 @@ pub data Lived {V : Type 0} (k : Kind V) : List Event → State V → Type 0 whe
 abbrev pub LeadsOn : {V : Type 0} → Kind V → Call → Option Refusal → State V → State V → Type 0
 LeadsOn k call answer s t = (past : List Event) → Lived k past s → Lived k (event call answer ∷ past) t × Balanced k (event call answer ∷ past) t
 
--- every life balances, for every kind of entry whose joins obey the laws
+-- every life of a month whose entries are of a kind balances
+abbrev pub LivesBalance : {V : Type 0} → Kind V → Type 0
+LivesBalance k = (past : List Event) (s : State _) → Lived k past s → Balanced k past s
+
+-- and so for every kind of entry whose joins obey the laws
 abbrev pub EveryLifeBalances : Type 1
-EveryLifeBalances = (V : Type 0) (k : Kind V) → Laws (joins k) → (past : List Event) (s : State V) → Lived k past s → Balanced k past s
+EveryLifeBalances = (V : Type 0) (k : Kind V) → Laws (joins k) → LivesBalance k
