@@ -36,6 +36,16 @@ abbrev pub openRefusal : ℕ → ℕ → ℕ → ℕ → ℕ → ℕ → ℕ →
 openRefusal agents hours size places rows shortfalls board =
   firstOf (firstOf (sizeChecks agents hours size) ∷ lengthCheck agents hours size places rows shortfalls board ∷ [])
 
+-- a number must be a contract's, which then meets the checks that follow
+abbrev pub atNumber : Option ℕ → (ℕ → Option Refusal) → Option Refusal
+atNumber None checks = Some (refusal 8 0)
+atNumber (Some place) checks = checks place
+
+-- a number must be no contract's
+abbrev pub free : Option ℕ → Option Refusal
+free None = None
+free (Some place) = Some (refusal 6 place)
+
 module _ {V : Type 0} (s : State V) where
   abbrev pub lengthsOf : Option Refusal
   lengthsOf = lengthCheck (s .sizes .agents) (s .sizes .hours) (s .sizes .places)
@@ -44,16 +54,6 @@ module _ {V : Type 0} (s : State V) where
   -- the memories are as long as they must be, and the book is sound
   abbrev pub admitted : Option Refusal
   admitted = firstOf (lengthsOf ∷ bookCheck (s .sizes) (contracts s) (s .rows) (s .shortfalls) ∷ [])
-
-  -- a number must be a contract's, which then meets the checks that follow
-  abbrev pub atNumber : Option ℕ → (ℕ → Option Refusal) → Option Refusal
-  atNumber None checks = Some (refusal 8 0)
-  atNumber (Some place) checks = checks place
-
-  -- a number must be no contract's
-  abbrev pub free : Option ℕ → Option Refusal
-  free None = None
-  free (Some place) = Some (refusal 6 place)
 
   abbrev pub offerRefusal : Offer → Option Refusal
   offerRefusal o = firstOf (
