@@ -1,3 +1,5 @@
 pub mod Lanes
 pub mod Board
+pub mod Recut
+pub mod Numbers
 pub mod Law
