@@ -2,4 +2,6 @@ pub mod Lanes
 pub mod Board
 pub mod Recut
 pub mod Numbers
+pub mod Rows
+pub mod Kept
 pub mod Law
