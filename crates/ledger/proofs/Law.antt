@@ -1,6 +1,6 @@
 -- Every life of a month balances.
 use Rattle.ledger.specs.Lives.{EveryLifeBalances}
-use Rattle.ledger.proofs.Numbers.{place-some}
+use Rattle.ledger.proofs.Passed.{offer-passed}
 use Rattle.ledger.proofs.Rows.{row-there}
 use Rattle.ledger.proofs.Kept.{settle}
 

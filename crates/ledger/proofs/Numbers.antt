@@ -16,7 +16,7 @@ use Rattle.book.specs.declared.contract.Contract.{Contract}
 use Rattle.book.specs.Lookup.{placeFrom, placeOf}
 use Rattle.ledger.specs.States.{blank}
 
-some≢none : {A : Type 0} (a : A) → Some a ≡ None → ⊥
+pub some≢none : {A : Type 0} (a : A) → Some a ≡ None → ⊥
 some≢none a e = both-ways true (ap isSome e) refl
 
 -- where nothing is refused, no check refuses
