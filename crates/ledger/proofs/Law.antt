@@ -1,7 +1,7 @@
 -- Every life of a month balances.
 use Rattle.ledger.specs.Lives.{EveryLifeBalances}
 use Rattle.ledger.proofs.Passed.{offer-passed}
-use Rattle.ledger.proofs.Rows.{row-there}
+use Rattle.ledger.proofs.Changed.{confirming-kept}
 use Rattle.ledger.proofs.Kept.{settle}
 
 pub every-life : EveryLifeBalances

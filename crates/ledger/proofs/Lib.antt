@@ -5,4 +5,5 @@ pub mod Numbers
 pub mod Passed
 pub mod Rows
 pub mod Kept
+pub mod Changed
 pub mod Law
