@@ -1,6 +1,6 @@
 -- Every life of a month balances.
 use Rattle.ledger.specs.Lives.{EveryLifeBalances}
-use Rattle.ledger.proofs.Passed.{offer-passed}
+use Rattle.ledger.proofs.Offered.{offering-kept}
 use Rattle.ledger.proofs.Changed.{confirming-kept}
 use Rattle.ledger.proofs.Kept.{settle}
 

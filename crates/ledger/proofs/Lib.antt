@@ -5,5 +5,6 @@ pub mod Numbers
 pub mod Passed
 pub mod Rows
 pub mod Kept
+pub mod Offered
 pub mod Changed
 pub mod Law
