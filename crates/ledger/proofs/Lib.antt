@@ -7,4 +7,6 @@ pub mod Rows
 pub mod Kept
 pub mod Offered
 pub mod Changed
+pub mod Sums
+pub mod Cuts
 pub mod Law
