@@ -71,18 +71,18 @@ module _ {V : Type 0} (k : Kind V) (b : Ledger) (s : State V) (kept : Kept k b s
 
       line-there : (i : ℕ) → i < s .taken → i ≢ index → lineAt (changed number f b) i ≡ lineAt b i
       line-there i p ne = line-at i p ∙ cond-false _ _ _ (ne-eqb (lineAt b i .fields .number) number
-        (λ e. ne (kept .apart i index p taken-at (e ∙ sym numbered))))
+          (λ e. ne (kept .apart i index p taken-at (e ∙ sym numbered))))
 
       -- a change of the contract at the index, as memories and ledger have it
       module _ (c : Contract) (t : State V)
-        (terms : c .terms ≡ contractAt s index .terms)
-        (same : f (lineAt b index) .fields ≡ lineAt b index .fields)
-        (state : c .state ≡ f (lineAt b index) .state)
-        (shortfalls : t .shortfalls ≡ s .shortfalls)
-        (rows-there : (i : ℕ) → i < s .taken → i ≢ index → rowAt t i ≡ rowAt s i)
-        (rows-stay : inForce (contractAt s index) ≡ true → rowAt t index ≡ rowAt s index)
-        (rows-here : stands (f (lineAt b index)) ≡ true → (rowAt t index ≡ f (lineAt b index) .row) × Confirmed (f (lineAt b index)))
-        (settled : Resettled k seller (set (contracts s) index c) s t) where
+          (terms : c .terms ≡ contractAt s index .terms)
+          (same : f (lineAt b index) .fields ≡ lineAt b index .fields)
+          (state : c .state ≡ f (lineAt b index) .state)
+          (shortfalls : t .shortfalls ≡ s .shortfalls)
+          (rows-there : (i : ℕ) → i < s .taken → i ≢ index → rowAt t i ≡ rowAt s i)
+          (rows-stay : inForce (contractAt s index) ≡ true → rowAt t index ≡ rowAt s index)
+          (rows-here : stands (f (lineAt b index)) ≡ true → (rowAt t index ≡ f (lineAt b index) .row) × Confirmed (f (lineAt b index)))
+          (settled : Resettled k seller (set (contracts s) index c) s t) where
         abbrev after : List Contract
         after = set (contracts s) index c
 
@@ -94,36 +94,39 @@ module _ {V : Type 0} (k : Kind V) (b : Ledger) (s : State V) (kept : Kept k b s
 
         by-place : (P : ℕ → Type 0) → P index → ((i : ℕ) → i < s .taken → i ≢ index → P i) → (i : ℕ) → i < s .taken → P i
         by-place P here there i p = elim (cases-eq i index) [
-            inl e ↦ subst P (sym e) here
-          | inr ne ↦ there i p ne ]
+          | inl e ↦ subst P (sym e) here
+          | inr ne ↦ there i p ne
+        ]
 
         change-moves : Moves k b (changed number f b) seller after s t
         change-moves = record {
           within = let fit = kept .fit index taken-at in
-            (subst (λ (n : ℕ). 1 ≤ n) seller-is (fit .seller .0), subst (λ (n : ℕ). n ≤ s .sizes .agents) seller-is (fit .seller .1));
+              (subst (λ (n : ℕ). 1 ≤ n) seller-is (fit .seller .0), subst (λ (n : ℕ). n ≤ s .sizes .agents) seller-is (fit .seller .1));
           long = length-set (contracts s) index c ∙ contracts-long;
           count = length-map (b .lines) (atNumber number f);
           fields = by-place (λ i. lineAt (changed number f b) i .fields ≡ lineAt b i .fields)
-            (ap (λ (l : Line). l .fields) line-here ∙ same) (λ i p ne. ap (λ (l : Line). l .fields) (line-there i p ne));
+              (ap (λ (l : Line). l .fields) line-here ∙ same) (λ i p ne. ap (λ (l : Line). l .fields) (line-there i p ne));
           terms = by-place (λ i. getD after i blank .terms ≡ contractAt s i .terms)
-            (ap (λ (x : Contract). x .terms) after-here ∙ terms) (λ i p ne. ap (λ (x : Contract). x .terms) (after-there i ne));
+              (ap (λ (x : Contract). x .terms) after-here ∙ terms) (λ i p ne. ap (λ (x : Contract). x .terms) (after-there i ne));
           state = by-place (λ i. getD after i blank .state ≡ lineAt (changed number f b) i .state)
-            (ap (λ (x : Contract). x .state) after-here ∙ state ∙ ap (λ (l : Line). l .state) (sym line-here))
-            (λ i p ne. ap (λ (x : Contract). x .state) (after-there i ne) ∙ kept .state i p ∙ ap (λ (l : Line). l .state) (sym (line-there i p ne)));
+              (ap (λ (x : Contract). x .state) after-here ∙ state ∙ ap (λ (l : Line). l .state) (sym line-here))
+              (λ i p ne. ap (λ (x : Contract). x .state) (after-there i ne) ∙ kept .state i p ∙ ap (λ (l : Line). l .state) (sym (line-there i p ne)));
           others = by-place (λ i. lineAt (changed number f b) i .fields .seller ≢ seller → (getD after i blank ≡ contractAt s i) × (lineAt (changed number f b) i ≡ lineAt b i))
-            (λ ne. absurd (ne (ap (λ (l : Line). l .fields .seller) line-here ∙ ap (λ (o : Offer). o .seller) same ∙ seller-is)))
-            (λ i p ne _. (after-there i ne, line-there i p ne));
+              (λ ne. absurd (ne (ap (λ (l : Line). l .fields .seller) line-here ∙ ap (λ (o : Offer). o .seller) same ∙ seller-is)))
+              (λ i p ne _. (after-there i ne, line-there i p ne));
           told = λ a low high. ap (λ (xs : List ℕ). getD xs (a - 1) 0) shortfalls ∙ kept .shortfalls a low high;
           untold = λ a _. refl;
           rows = by-place (λ i. stands (lineAt (changed number f b) i) ≡ true → (rowAt t i ≡ lineAt (changed number f b) i .row) × Confirmed (lineAt (changed number f b) i))
-            (λ y. let r = rows-here (ap stands (sym line-here) ∙ y) in
+              (λ y. let r = rows-here (ap stands (sym line-here) ∙ y) in
               (r .0 ∙ ap (λ (l : Line). l .row) (sym line-here), subst Confirmed (sym line-here) (r .1)))
-            (λ i p ne y.
-              let was : stands (lineAt b i) ≡ true = ap stands (sym (line-there i p ne)) ∙ y in
-              (rows-there i p ne ∙ kept .rows i p was ∙ ap (λ (l : Line). l .row) (sym (line-there i p ne)),
-               subst Confirmed (sym (line-there i p ne)) (kept .noted i p was)));
+              (λ i p ne y.
+              let was : stands (lineAt b i) ≡ true = ap stands (sym (line-there i p ne)) ∙ y in (
+                rows-there i p ne ∙ kept .rows i p was ∙ ap (λ (l : Line). l .row) (sym (line-there i p ne)),
+                subst Confirmed (sym (line-there i p ne)) (kept .noted i p was),
+              ));
           stay = by-place (λ i. inForce (contractAt s i) ≡ true → rowAt t i ≡ rowAt s i) rows-stay (λ i p ne _. rows-there i p ne);
-          settled = settled }
+          settled = settled;
+        }
 
   -- rows that are as they were
   rows-same : (t : State V) → t .sizes ≡ s .sizes → t .rows ≡ s .rows → (i : ℕ) → rowAt t i ≡ rowAt s i
@@ -137,8 +140,8 @@ module _ {V : Type 0} (k : Kind V) (b : Ledger) (s : State V) (kept : Kept k b s
         let c = withEffective 0 (withState Ended was) in
         let alike = rows-same t (e .settled .sizes) (e .rows) in
         settle k laws b (changed number ended b) (was .terms .seller) (set (contracts s) i c) s t kept
-          (change-moves number i (e .found) ended c t refl refl refl (e .shortfalls)
-            (λ j _ _. alike j) (λ _. alike i) (λ y. absurd (both-ways false refl y)) (e .settled))
+        (change-moves number i (e .found) ended c t refl refl refl (e .shortfalls)
+        (λ j _ _. alike j) (λ _. alike i) (λ y. absurd (both-ways false refl y)) (e .settled))
 
     pub telling-kept : (agent kwh : ℕ) → tellRefusal s agent kwh ≡ None → Noted k agent kwh s t → Kept k (noted (telling agent kwh) b) t
     telling-kept agent kwh answered e =
@@ -154,18 +157,20 @@ module _ {V : Type 0} (k : Kind V) (b : Ledger) (s : State V) (kept : Kept k b s
           state = kept .state;
           others = λ i _ _. (refl, refl);
           told = λ a low high. ap (λ (xs : List ℕ). getD xs (a - 1) 0) (e .shortfalls) ∙ elim (cases-eq a agent) [
-              inl same ↦ ap (λ (n : ℕ). getD (set (s .shortfalls) (agent - 1) kwh) (n - 1) 0) same
+            | inl same ↦ ap (λ (n : ℕ). getD (set (s .shortfalls) (agent - 1) kwh) (n - 1) 0) same
                 ∙ getD-set-same (s .shortfalls) (agent - 1) kwh 0 (let w = passed .within in omega (arith, passed .lengths .shortfalls))
                 ∙ sym (cond-true _ _ _ (eq-eqb a agent same))
             | inr ne ↦ getD-set-other (s .shortfalls) (agent - 1) (a - 1) kwh 0 (λ q. ne (let w = passed .within in omega arith))
-                ∙ kept .shortfalls a low high ∙ sym (cond-false _ _ _ (ne-eqb a agent ne)) ];
+                ∙ kept .shortfalls a low high ∙ sym (cond-false _ _ _ (ne-eqb a agent ne))
+          ];
           untold = λ a ne. cond-false _ _ _ (ne-eqb a agent ne);
           rows = λ i p y. (alike i ∙ kept .rows i p y, kept .noted i p y);
           stay = λ i _ _. alike i;
-          settled = e .settled })
+          settled = e .settled;
+        })
 
     pub confirming-kept : (number agent : ℕ) (weights : List ℕ) → confirmRefusal s number agent weights ≡ None → Enforced k number weights s t →
-      Kept k (noted (confirming number agent weights) b) t
+        Kept k (noted (confirming number agent weights) b) t
     confirming-kept number agent weights answered e =
         let i = e .index in
         let was = contractAt s i in
@@ -176,15 +181,17 @@ module _ {V : Type 0} (k : Kind V) (b : Ledger) (s : State V) (kept : Kept k b s
         let row = sharesOf rounding (was .terms .amount) ws in
         let long : length row ≡ hours = length-shared (rounding (was .terms .amount) (sum ws)) 0 ws ∙ length-clippedFrom 1 (was .terms .first) (was .terms .last) weights ∙ passed .hours in
         let room : i * hours + hours ≤ length (s .rows) = subst (λ (n : ℕ). i * hours + hours ≤ n) (sym (passed .lengths .rows))
-              (row-before i (s .sizes .places) hours (let r = kept .room in omega (arith, p, passed .lengths .places))) in
+        (row-before i (s .sizes .places) hours (let r = kept .room in omega (arith, p, passed .lengths .places))) in
         let written : (j : ℕ) → rowAt t j ≡ rowOf hours (putRow hours i row (s .rows)) j =
-              λ j. ap (λ (z : Sizes). rowOf (z .hours) (t .rows) j) (e .settled .sizes) ∙ ap (λ (xs : List ℕ). rowOf hours xs j) (e .rows) in
+        λ j. ap (λ (z : Sizes). rowOf (z .hours) (t .rows) j) (e .settled .sizes) ∙ ap (λ (xs : List ℕ). rowOf hours xs j) (e .rows) in
         let l = lineAt b i in
         settle k laws b (changed number (confirmed weights) b) (was .terms .seller) (set (contracts s) i (withState InForce was)) s t kept
-          (change-moves number i (e .found) (confirmed weights) (withState InForce was) t refl refl refl (e .shortfalls)
-            (λ j _ ne. written j ∙ row-there hours i row (s .rows) long room j ne)
-            (λ y. absurd (both-ways (inForce was) (passed .idle) y))
-            (λ _. (written i ∙ row-here hours i row (s .rows) long room
-                ∙ ap (λ (o : Offer). sharesOf rounding (o .amount) (clipped (o .first) (o .last) weights)) (kept .same i p),
-              record { weighs = subst (λ (o : Offer). 1 ≤ sum (clipped (o .first) (o .last) weights)) (kept .same i p) (passed .weighs); row = refl }))
-            (e .settled))
+        (change-moves number i (e .found) (confirmed weights) (withState InForce was) t refl refl refl (e .shortfalls)
+        (λ j _ ne. written j ∙ row-there hours i row (s .rows) long room j ne)
+        (λ y. absurd (both-ways (inForce was) (passed .idle) y))
+        (λ _. (
+          written i ∙ row-here hours i row (s .rows) long room
+              ∙ ap (λ (o : Offer). sharesOf rounding (o .amount) (clipped (o .first) (o .last) weights)) (kept .same i p),
+          record { weighs = subst (λ (o : Offer). 1 ≤ sum (clipped (o .first) (o .last) weights)) (kept .same i p) (passed .weighs); row = refl },
+        ))
+        (e .settled))

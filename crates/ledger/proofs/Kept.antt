@@ -70,7 +70,7 @@ claim-same c l f st =
     form b o = record { seller = o .seller; class = o .class; amount = o .amount; standing = b }
 
 module _ {V : Type 0} (k : Kind V) (laws : Laws (joins k)) (b d : Ledger) (seller : ℕ) (after : List Contract) (s t : State V)
-  (kept : Kept k b s) (moves : Moves k b d seller after s t) where
+    (kept : Kept k b s) (moves : Moves k b d seller after s t) where
   abbrev short : ℕ
   short = shortfallOf t seller
 
@@ -94,8 +94,8 @@ module _ {V : Type 0} (k : Kind V) (laws : Laws (joins k)) (b d : Ledger) (selle
 
   claims : map claimOf after ≡ map claimIn (d .lines)
   claims = ext-getD noClaim (map claimOf after) (map claimIn (d .lines))
-    (length-map after claimOf ∙ moves .long ∙ sym lines-long ∙ sym (length-map (d .lines) claimIn))
-    (λ i p.
+      (length-map after claimOf ∙ moves .long ∙ sym lines-long ∙ sym (length-map (d .lines) claimIn))
+      (λ i p.
       let q : i < s .taken = subst (λ (n : ℕ). i < n) (length-map after claimOf ∙ moves .long) p in
       getD-map claimOf after i blank noClaim (inside i q)
       ∙ claim-same (getD after i blank) (lineAt d i) (fields-at i q) (moves .state i q)
@@ -106,7 +106,7 @@ module _ {V : Type 0} (k : Kind V) (laws : Laws (joins k)) (b d : Ledger) (selle
   own-effective i p y e =
       let c = getD after i blank in
       let standing : standsFor seller c ≡ true = and-from (inForce c) (eqb (c .terms .seller) seller) (ap isInForce (moves .state i p) ∙ y)
-            (eq-eqb (c .terms .seller) seller (ap (λ (o : Offer). o .seller) (fields-at i p) ∙ e)) in
+      (eq-eqb (c .terms .seller) seller (ap (λ (o : Offer). o .seller) (fields-at i p) ∙ e)) in
       ap (λ (x : Contract). x .effective) (at-place i p ∙ cond-true (standsFor seller c) _ _ standing)
       ∙ ap (λ (x : ℕ). effectiveAt rounding x (map claimOf after) i) (moves .told seller (moves .within .0) (moves .within .1) ∙ ap (d .shortfall) (sym e))
       ∙ ap (λ (cs : List Claim). effectiveAt rounding (d .shortfall (lineAt d i .fields .seller)) cs i) claims
@@ -117,35 +117,37 @@ module _ {V : Type 0} (k : Kind V) (laws : Laws (joins k)) (b d : Ledger) (selle
       let c = getD after i blank in
       let o = moves .others i p ne in
       let idle : standsFor seller c ≡ false = and-right (inForce c) (eqb (c .terms .seller) seller)
-            (ne-eqb (c .terms .seller) seller (λ e. ne (sym (ap (λ (x : Offer). x .seller) (fields-at i p)) ∙ e))) in
+      (ne-eqb (c .terms .seller) seller (λ e. ne (sym (ap (λ (x : Offer). x .seller) (fields-at i p)) ∙ e))) in
       let il : i < length (b .lines) = subst (λ (n : ℕ). i < n) (sym (kept .count)) p in
       let id : i < length (d .lines) = subst (λ (n : ℕ). i < n) (sym lines-long) p in
       let bs = map claimIn (b .lines) in
       let ds = map claimIn (d .lines) in
       let here : getD bs i noClaim ≡ getD ds i noClaim =
-            getD-map claimIn (b .lines) i noLine noClaim il ∙ ap claimIn (sym (o .1)) ∙ sym (getD-map claimIn (d .lines) i noLine noClaim id) in
+      getD-map claimIn (b .lines) i noLine noClaim il ∙ ap claimIn (sym (o .1)) ∙ sym (getD-map claimIn (d .lines) i noLine noClaim id) in
       let whose : getD ds i noClaim .seller ≡ lineAt d i .fields .seller = ap (λ (x : Claim). x .seller) (getD-map claimIn (d .lines) i noLine noClaim id) in
       let agree : (j : ℕ) → j < length bs → (getD bs j noClaim ≡ getD ds j noClaim) ⊎
-              ((getD bs j noClaim .seller ≢ getD ds i noClaim .seller) × (getD ds j noClaim .seller ≢ getD ds i noClaim .seller)) =
-            λ j q. agrees i p ne whose j (subst (λ (n : ℕ). j < n) (length-map (b .lines) claimIn ∙ kept .count) q) in
+      ((getD bs j noClaim .seller ≢ getD ds i noClaim .seller) × (getD ds j noClaim .seller ≢ getD ds i noClaim .seller)) =
+      λ j q. agrees i p ne whose j (subst (λ (n : ℕ). j < n) (length-map (b .lines) claimIn ∙ kept .count) q) in
       ap (λ (x : Contract). x .effective) (at-place i p ∙ cond-false (standsFor seller c) _ _ idle ∙ o .0)
       ∙ kept .effective i p (ap stands (sym (o .1)) ∙ y)
       ∙ ap (λ (x : ℕ). effectiveAt rounding x bs i) (ap (λ (l : Line). b .shortfall (l .fields .seller)) (sym (o .1)) ∙ sym (moves .untold (lineAt d i .fields .seller) ne))
       ∙ effective-same rounding (d .shortfall (lineAt d i .fields .seller)) bs ds i here
-          (λ class. weights-same (getD ds i noClaim .seller) class bs ds (length-map (b .lines) claimIn ∙ sym (moves .count) ∙ sym (length-map (d .lines) claimIn)) agree)
+      (λ class. weights-same (getD ds i noClaim .seller) class bs ds (length-map (b .lines) claimIn ∙ sym (moves .count) ∙ sym (length-map (d .lines) claimIn)) agree)
     where
       agrees : (i : ℕ) → i < s .taken → lineAt d i .fields .seller ≢ seller → getD (map claimIn (d .lines)) i noClaim .seller ≡ lineAt d i .fields .seller →
-        (j : ℕ) → j < s .taken → (getD (map claimIn (b .lines)) j noClaim ≡ getD (map claimIn (d .lines)) j noClaim) ⊎
+          (j : ℕ) → j < s .taken → (getD (map claimIn (b .lines)) j noClaim ≡ getD (map claimIn (d .lines)) j noClaim) ⊎
           ((getD (map claimIn (b .lines)) j noClaim .seller ≢ getD (map claimIn (d .lines)) i noClaim .seller)
-            × (getD (map claimIn (d .lines)) j noClaim .seller ≢ getD (map claimIn (d .lines)) i noClaim .seller))
+          × (getD (map claimIn (d .lines)) j noClaim .seller ≢ getD (map claimIn (d .lines)) i noClaim .seller))
       agrees i p ne whose j q =
           let jb = getD-map claimIn (b .lines) j noLine noClaim (subst (λ (n : ℕ). j < n) (sym (kept .count)) q) in
           let jd = getD-map claimIn (d .lines) j noLine noClaim (subst (λ (n : ℕ). j < n) (sym lines-long) q) in
           elim (cases-eq (lineAt d j .fields .seller) seller) [
-              inl e ↦ inr (
-                (λ z. ne (sym whose ∙ sym z ∙ ap (λ (x : Claim). x .seller) jb ∙ ap (λ (x : Offer). x .seller) (sym (moves .fields j q)) ∙ e)),
-                (λ z. ne (sym whose ∙ sym z ∙ ap (λ (x : Claim). x .seller) jd ∙ e)))
-            | inr nj ↦ inl (jb ∙ ap claimIn (sym (moves .others j q nj .1)) ∙ sym jd) ]
+            | inl e ↦ inr (
+              (λ z. ne (sym whose ∙ sym z ∙ ap (λ (x : Claim). x .seller) jb ∙ ap (λ (x : Offer). x .seller) (sym (moves .fields j q)) ∙ e)),
+              (λ z. ne (sym whose ∙ sym z ∙ ap (λ (x : Claim). x .seller) jd ∙ e)),
+            )
+            | inr nj ↦ inl (jb ∙ ap claimIn (sym (moves .others j q nj .1)) ∙ sym jd)
+          ]
 
   abbrev back : {i : ℕ} → i < t .taken → i < s .taken
   back {i} p = subst (λ (n : ℕ). i < n) (moves .settled .taken) p
@@ -155,15 +157,17 @@ module _ {V : Type 0} (k : Kind V) (laws : Laws (joins k)) (b d : Ledger) (selle
     count = lines-long ∙ sym (moves .settled .taken);
     room = let r = kept .room in omega (arith, moves .settled .taken, moves .settled .places);
     fit = λ i p. subst (λ (z : Sizes). Acceptable z (lineAt d i .fields)) (sym (moves .settled .sizes))
-      (subst (Acceptable (s .sizes)) (sym (moves .fields i (back p))) (kept .fit i (back p)));
+        (subst (Acceptable (s .sizes)) (sym (moves .fields i (back p))) (kept .fit i (back p)));
     same = λ i p. ap fields (terms-at i (back p)) ∙ kept .same i (back p) ∙ sym (moves .fields i (back p));
     state = λ i p. state-at i (back p);
     apart = λ i j p q e. kept .apart i j (back p) (back q)
-      (ap (λ (o : Offer). o .number) (sym (moves .fields i (back p))) ∙ e ∙ ap (λ (o : Offer). o .number) (moves .fields j (back q)));
+        (ap (λ (o : Offer). o .number) (sym (moves .fields i (back p))) ∙ e ∙ ap (λ (o : Offer). o .number) (moves .fields j (back q)));
     rows = λ i p y. moves .rows i (back p) y .0;
     noted = λ i p y. moves .rows i (back p) y .1;
     effective = λ i p y. elim (cases-eq (lineAt d i .fields .seller) seller) [
-        inl e ↦ own-effective i (back p) y e
-      | inr ne ↦ other-effective i (back p) y ne ];
+      | inl e ↦ own-effective i (back p) y e
+      | inr ne ↦ other-effective i (back p) y ne
+    ];
     shortfalls = λ a low high. moves .told a low (subst (λ (z : Sizes). a ≤ z .agents) (moves .settled .sizes) high);
-    posted = posted-next k laws s t (moves .settled .sizes) (moves .settled .taken) (kept-fits kept) (kept .posted) terms-at (moves .stay) (moves .settled .board) }
+    posted = posted-next k laws s t (moves .settled .sizes) (moves .settled .taken) (kept-fits kept) (kept .posted) terms-at (moves .stay) (moves .settled .board);
+  }

@@ -30,31 +30,35 @@ unless-none false n s e = absurd (some≢none _ e)
 
 -- a number that is nowhere
 pub place-none : (place number : ℕ) (cs : List Contract) → placeFrom place number cs ≡ None →
-  (i : ℕ) → i < length cs → getD cs i blank .terms .number ≢ number
+    (i : ℕ) → i < length cs → getD cs i blank .terms .number ≢ number
 place-none place number [] e i p same = absurd (let bad : ⊥ = omega arith in bad)
 place-none place number (c ∷ cs) e zero p same = some≢none place (sym (cond-true _ _ _ (eq-eqb (c .terms .number) number same)) ∙ e)
 place-none place number (c ∷ cs) e (suc i) p same = elim (cases-bool (eqb (c .terms .number) number)) [
-    inl y ↦ some≢none place (sym (cond-true _ _ _ y) ∙ e)
-  | inr n ↦ place-none (place + 1) number cs (sym (cond-false _ _ _ n) ∙ e) i (omega arith) same ]
+  | inl y ↦ some≢none place (sym (cond-true _ _ _ y) ∙ e)
+  | inr n ↦ place-none (place + 1) number cs (sym (cond-false _ _ _ n) ∙ e) i (omega arith) same
+]
 
 some-same : (a b : ℕ) → Some a ≡ Some b → a ≡ b
 some-same a b e = cc
 
 -- a number that is found
 pub place-some : (place number : ℕ) (cs : List Contract) (index : ℕ) → placeFrom place number cs ≡ Some (place + index) →
-  (index < length cs) × (getD cs index blank .terms .number ≡ number)
+    (index < length cs) × (getD cs index blank .terms .number ≡ number)
 place-some place number [] index e = absurd (some≢none (place + index) (sym e))
 place-some place number (c ∷ cs) zero e = elim (cases-bool (eqb (c .terms .number) number)) [
-    inl y ↦ (omega arith, eqb-true (c .terms .number) number y)
-  | inr n ↦ absurd (later (place + 1) cs (place + 0) (sym (cond-false _ _ _ n) ∙ e) (omega arith)) ]
+  | inl y ↦ (omega arith, eqb-true (c .terms .number) number y)
+  | inr n ↦ absurd (later (place + 1) cs (place + 0) (sym (cond-false _ _ _ n) ∙ e) (omega arith))
+]
   where
     later : (from : ℕ) (ds : List Contract) (q : ℕ) → placeFrom from number ds ≡ Some q → q < from → ⊥
     later from [] q f p = some≢none q (sym f)
     later from (d ∷ ds) q f p = elim (cases-bool (eqb (d .terms .number) number)) [
-        inl y ↦ let same : from ≡ q = some-same from q (sym (cond-true _ _ _ y) ∙ f) in let bad : ⊥ = omega arith in bad
-      | inr n ↦ later (from + 1) ds q (sym (cond-false _ _ _ n) ∙ f) (omega arith) ]
+      | inl y ↦ let same : from ≡ q = some-same from q (sym (cond-true _ _ _ y) ∙ f) in let bad : ⊥ = omega arith in bad
+      | inr n ↦ later (from + 1) ds q (sym (cond-false _ _ _ n) ∙ f) (omega arith)
+    ]
 place-some place number (c ∷ cs) (suc index) e = elim (cases-bool (eqb (c .terms .number) number)) [
-    inl y ↦ let same : place ≡ place + suc index = some-same place (place + suc index) (sym (cond-true _ _ _ y) ∙ e) in absurd (let bad : ⊥ = omega arith in bad)
+  | inl y ↦ let same : place ≡ place + suc index = some-same place (place + suc index) (sym (cond-true _ _ _ y) ∙ e) in absurd (let bad : ⊥ = omega arith in bad)
   | inr n ↦
       let rest = place-some (place + 1) number cs index (sym (cond-false _ _ _ n) ∙ e ∙ ap Some (let z : place + suc index ≡ place + 1 + index = omega arith in z)) in
-      (let lt : index < length cs = rest .0 in omega arith, rest .1) ]
+      (let lt : index < length cs = rest .0 in omega arith, rest .1)
+]

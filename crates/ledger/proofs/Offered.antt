@@ -30,8 +30,9 @@ use Rattle.ledger.proofs.Recut.{effective-longer}
 
 all-alike : {X : Type 0} (n i : ℕ) (x : X) → getD (replicate n x) i x ≡ x
 all-alike n i x = elim (cases-lt i n) [
-    inl less ↦ getD-replicate n i x x less
-  | inr more ↦ getD-past (replicate n x) i x (subst (λ (m : ℕ). m ≤ i) (sym (length-replicate n x)) more) ]
+  | inl less ↦ getD-replicate n i x x less
+  | inr more ↦ getD-past (replicate n x) i x (subst (λ (m : ℕ). m ≤ i) (sym (length-replicate n x)) more)
+]
 
 pub opening-kept : {V : Type 0} (k : Kind V) (s : State V) → Opened k s → Kept k (ledger []) s
 opening-kept k s o =
@@ -48,15 +49,17 @@ opening-kept k s o =
       shortfalls = λ a low high. ap (λ (xs : List ℕ). getD xs (a - 1) 0) (o .shortfalls) ∙ all-alike (s .sizes .agents) (a - 1) 0;
       posted = record {
         held = λ l hour ll hh. ap (λ vs. getD vs (l * s .sizes .hours + hour) (k .nothing)) (o .board)
-          ∙ all-alike (s .sizes .agents * 4 * s .sizes .hours) (l * s .sizes .hours + hour) (k .nothing)
-          ∙ ap (λ (n : ℕ). upTo (joins k) n (λ i. puts k rounding (contractAt s i) (rowAt s i) l hour)) (sym (o .taken));
-        cancels = λ i p. absurd (none i p) } }
+            ∙ all-alike (s .sizes .agents * 4 * s .sizes .hours) (l * s .sizes .hours + hour) (k .nothing)
+            ∙ ap (λ (n : ℕ). upTo (joins k) n (λ i. puts k rounding (contractAt s i) (rowAt s i) l hour)) (sym (o .taken));
+        cancels = λ i p. absurd (none i p);
+      };
+    }
   where
     none : (i : ℕ) → i < s .taken → ⊥
     none i p = let e = o .taken in omega arith
 
 module _ {V : Type 0} (k : Kind V) (laws : Laws (joins k)) (b : Ledger) (s t : State V) (kept : Kept k b s) (o : Offer)
-  (answered : offerRefusal s o ≡ None) (e : Taken o s t) where
+    (answered : offerRefusal s o ≡ None) (e : Taken o s t) where
   abbrev next : Ledger
   next = noted (offering o) b
 
@@ -95,8 +98,9 @@ module _ {V : Type 0} (k : Kind V) (laws : Laws (joins k)) (b : Ledger) (s t : S
   -- what holds of the old places and of the new one holds of all
   each : (P : ℕ → Type 0) → ((i : ℕ) → i < s .taken → P i) → P (s .taken) → (i : ℕ) → i < t .taken → P i
   each P old new i p = elim (cases-lt i (s .taken)) [
-      inl less ↦ old i less
-    | inr more ↦ subst P (let q : s .taken ≡ i = omega (arith, e .taken) in q) new ]
+    | inl less ↦ old i less
+    | inr more ↦ subst P (let q : s .taken ≡ i = omega (arith, e .taken) in q) new
+  ]
 
   fresh-number : (i : ℕ) → i < s .taken → lineAt b i .fields .number ≢ o .number
   fresh-number i p q = passed .fresh i (subst (λ (n : ℕ). i < n) (sym contracts-long) p) (ap (λ (x : Offer). x .number) (kept .same i p) ∙ q)
@@ -107,58 +111,60 @@ module _ {V : Type 0} (k : Kind V) (laws : Laws (joins k)) (b : Ledger) (s t : S
       ∙ kept .effective i p (ap stands (sym (line-old i p)) ∙ y)
       ∙ ap (λ (l : Line). effectiveAt rounding (b .shortfall (l .fields .seller)) (map claimIn (b .lines)) i) (sym (line-old i p))
       ∙ sym (effective-longer rounding (b .shortfall (lineAt next i .fields .seller)) (map claimIn (b .lines)) (claimIn (entered o)) i refl
-          (subst (λ (n : ℕ). i < n) (sym (length-map (b .lines) claimIn ∙ kept .count)) p))
+      (subst (λ (n : ℕ). i < n) (sym (length-map (b .lines) claimIn ∙ kept .count)) p))
       ∙ ap (λ (cs : List Claim). effectiveAt rounding (b .shortfall (lineAt next i .fields .seller)) cs i) (sym (map-push claimIn (b .lines) (entered o)))
 
   posted-offer : Posted k t
   posted-offer = record {
     held = λ l hour ll hh.
-      ap (λ (z : Sizes). cell k (z .hours) (t .board) l hour) (e .sizes)
-      ∙ ap (λ vs. cell k (s .sizes .hours) vs l hour) (e .board)
-      ∙ kept .posted .held l hour (subst (λ (z : Sizes). l < z .agents * 4) (e .sizes) ll) (subst (λ (z : Sizes). hour < z .hours) (e .sizes) hh)
-      ∙ up-same (joins k) laws (s .taken) _ _ (λ i p.
-          ap (λ (c : Contract). puts k rounding c (rowAt s i) l hour) (sym (place-old i p))
-          ∙ ap (λ (r : List ℕ). puts k rounding (contractAt t i) r l hour) (sym (row-old i)))
-      ∙ sym (laws .unit (upTo (joins k) (s .taken) (λ i. puts k rounding (contractAt t i) (rowAt t i) l hour)))
-      ∙ ap (k .join (upTo (joins k) (s .taken) (λ i. puts k rounding (contractAt t i) (rowAt t i) l hour)))
-          (sym (cond-false (inForce (contractAt t (s .taken))) _ _ idle-place))
-      ∙ sym (up-more (joins k) (s .taken) (λ i. puts k rounding (contractAt t i) (rowAt t i) l hour))
-      ∙ ap (λ (n : ℕ). upTo (joins k) n (λ i. puts k rounding (contractAt t i) (rowAt t i) l hour)) (sym (e .taken));
+        ap (λ (z : Sizes). cell k (z .hours) (t .board) l hour) (e .sizes)
+        ∙ ap (λ vs. cell k (s .sizes .hours) vs l hour) (e .board)
+        ∙ kept .posted .held l hour (subst (λ (z : Sizes). l < z .agents * 4) (e .sizes) ll) (subst (λ (z : Sizes). hour < z .hours) (e .sizes) hh)
+        ∙ up-same (joins k) laws (s .taken) _ _ (λ i p.
+        ap (λ (c : Contract). puts k rounding c (rowAt s i) l hour) (sym (place-old i p))
+        ∙ ap (λ (r : List ℕ). puts k rounding (contractAt t i) r l hour) (sym (row-old i)))
+        ∙ sym (laws .unit (upTo (joins k) (s .taken) (λ i. puts k rounding (contractAt t i) (rowAt t i) l hour)))
+        ∙ ap (k .join (upTo (joins k) (s .taken) (λ i. puts k rounding (contractAt t i) (rowAt t i) l hour)))
+        (sym (cond-false (inForce (contractAt t (s .taken))) _ _ idle-place))
+        ∙ sym (up-more (joins k) (s .taken) (λ i. puts k rounding (contractAt t i) (rowAt t i) l hour))
+        ∙ ap (λ (n : ℕ). upTo (joins k) n (λ i. puts k rounding (contractAt t i) (rowAt t i) l hour)) (sym (e .taken));
     cancels = each (λ i. AllCancel k rounding (t .sizes .hours) (contractAt t i) (rowAt t i))
-      (λ i p. subst (λ (z : Sizes). AllCancel k rounding (z .hours) (contractAt t i) (rowAt t i)) (sym (e .sizes))
+        (λ i p. subst (λ (z : Sizes). AllCancel k rounding (z .hours) (contractAt t i) (rowAt t i)) (sym (e .sizes))
         (subst (AllCancel k rounding (s .sizes .hours) (contractAt t i)) (sym (row-old i))
-          (subst (λ (c : Contract). AllCancel k rounding (s .sizes .hours) c (rowAt s i)) (sym (place-old i p)) (kept .posted .cancels i p))))
-      (λ y. absurd (both-ways _ idle-place y)) }
+        (subst (λ (c : Contract). AllCancel k rounding (s .sizes .hours) c (rowAt s i)) (sym (place-old i p)) (kept .posted .cancels i p))))
+        (λ y. absurd (both-ways _ idle-place y));
+  }
 
   pub offering-kept : Kept k next t
   offering-kept = record {
     count = length-push (b .lines) (entered o) ∙ ap (λ (n : ℕ). n + 1) (kept .count) ∙ sym (e .taken);
     room = let r = passed .room in omega (arith, e .taken, ap length (e .places), length-set (s .places) (s .taken) (e .contract));
     fit = each (λ i. Acceptable (t .sizes) (lineAt next i .fields))
-      (λ i p. subst (λ (z : Sizes). Acceptable z (lineAt next i .fields)) (sym (e .sizes))
+        (λ i p. subst (λ (z : Sizes). Acceptable z (lineAt next i .fields)) (sym (e .sizes))
         (subst (λ (l : Line). Acceptable (s .sizes) (l .fields)) (sym (line-old i p)) (kept .fit i p)))
-      (subst (λ (z : Sizes). Acceptable z (lineAt next (s .taken) .fields)) (sym (e .sizes))
+        (subst (λ (z : Sizes). Acceptable z (lineAt next (s .taken) .fields)) (sym (e .sizes))
         (subst (λ (l : Line). Acceptable (s .sizes) (l .fields)) (sym line-new) (passed .acceptable)));
     same = each (λ i. fields (contractAt t i .terms) ≡ lineAt next i .fields)
-      (λ i p. ap (λ (c : Contract). fields (c .terms)) (place-old i p) ∙ kept .same i p ∙ ap (λ (l : Line). l .fields) (sym (line-old i p)))
-      (ap (λ (c : Contract). fields (c .terms)) place-new ∙ e .offered .terms ∙ ap (λ (l : Line). l .fields) (sym line-new));
+        (λ i p. ap (λ (c : Contract). fields (c .terms)) (place-old i p) ∙ kept .same i p ∙ ap (λ (l : Line). l .fields) (sym (line-old i p)))
+        (ap (λ (c : Contract). fields (c .terms)) place-new ∙ e .offered .terms ∙ ap (λ (l : Line). l .fields) (sym line-new));
     state = each (λ i. contractAt t i .state ≡ lineAt next i .state)
-      (λ i p. ap (λ (c : Contract). c .state) (place-old i p) ∙ kept .state i p ∙ ap (λ (l : Line). l .state) (sym (line-old i p)))
-      (ap (λ (c : Contract). c .state) place-new ∙ e .offered .state ∙ ap (λ (l : Line). l .state) (sym line-new));
+        (λ i p. ap (λ (c : Contract). c .state) (place-old i p) ∙ kept .state i p ∙ ap (λ (l : Line). l .state) (sym (line-old i p)))
+        (ap (λ (c : Contract). c .state) place-new ∙ e .offered .state ∙ ap (λ (l : Line). l .state) (sym line-new));
     apart = λ i j p q same. each (λ x. (y : ℕ) → y < t .taken → lineAt next x .fields .number ≡ lineAt next y .fields .number → x ≡ y)
-      (λ x px. each (λ y. lineAt next x .fields .number ≡ lineAt next y .fields .number → x ≡ y)
+        (λ x px. each (λ y. lineAt next x .fields .number ≡ lineAt next y .fields .number → x ≡ y)
         (λ y py w. kept .apart x y px py (ap (λ (l : Line). l .fields .number) (sym (line-old x px)) ∙ w ∙ ap (λ (l : Line). l .fields .number) (line-old y py)))
         (λ w. absurd (fresh-number x px (ap (λ (l : Line). l .fields .number) (sym (line-old x px)) ∙ w ∙ ap (λ (l : Line). l .fields .number) line-new))))
-      (each (λ y. lineAt next (s .taken) .fields .number ≡ lineAt next y .fields .number → s .taken ≡ y)
+        (each (λ y. lineAt next (s .taken) .fields .number ≡ lineAt next y .fields .number → s .taken ≡ y)
         (λ y py w. absurd (fresh-number y py (ap (λ (l : Line). l .fields .number) (sym (line-old y py)) ∙ sym w ∙ ap (λ (l : Line). l .fields .number) line-new)))
         (λ w. refl)) i p j q same;
     rows = each (λ i. stands (lineAt next i) ≡ true → rowAt t i ≡ lineAt next i .row)
-      (λ i p y. row-old i ∙ kept .rows i p (ap stands (sym (line-old i p)) ∙ y) ∙ ap (λ (l : Line). l .row) (sym (line-old i p)))
-      (λ y. absurd (both-ways _ idle-new y));
+        (λ i p y. row-old i ∙ kept .rows i p (ap stands (sym (line-old i p)) ∙ y) ∙ ap (λ (l : Line). l .row) (sym (line-old i p)))
+        (λ y. absurd (both-ways _ idle-new y));
     noted = each (λ i. stands (lineAt next i) ≡ true → Confirmed (lineAt next i))
-      (λ i p y. subst Confirmed (sym (line-old i p)) (kept .noted i p (ap stands (sym (line-old i p)) ∙ y)))
-      (λ y. absurd (both-ways _ idle-new y));
+        (λ i p y. subst Confirmed (sym (line-old i p)) (kept .noted i p (ap stands (sym (line-old i p)) ∙ y)))
+        (λ y. absurd (both-ways _ idle-new y));
     effective = each (λ i. stands (lineAt next i) ≡ true → contractAt t i .effective ≡ effectiveIn next i)
-      effective-old (λ y. absurd (both-ways _ idle-new y));
+        effective-old (λ y. absurd (both-ways _ idle-new y));
     shortfalls = λ a low high. ap (λ (xs : List ℕ). getD xs (a - 1) 0) (e .shortfalls) ∙ kept .shortfalls a low (subst (λ (z : Sizes). a ≤ z .agents) (e .sizes) high);
-    posted = posted-offer }
+    posted = posted-offer;
+  }

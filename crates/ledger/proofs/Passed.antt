@@ -47,7 +47,8 @@ module _ {V : Type 0} (s : State V) where
       record {
         places = eqb-true (length (s .places)) (s .sizes .places) (unless-none _ 1 1 (p1 .0));
         rows = eqb-true (length (s .rows)) (s .sizes .places * s .sizes .hours) (unless-none _ 1 2 (p2 .0));
-        shortfalls = eqb-true (length (s .shortfalls)) (s .sizes .agents) (unless-none _ 1 3 (p3 .0)) }
+        shortfalls = eqb-true (length (s .shortfalls)) (s .sizes .agents) (unless-none _ 1 3 (p3 .0));
+      }
 
   free-none : (place : Option ℕ) → free place ≡ None → place ≡ None
   free-none None e = refl
@@ -69,7 +70,8 @@ module _ {V : Type 0} (s : State V) where
       record {
         acceptable = acceptable (s .sizes) o (p2 .0);
         fresh = place-none 1 (o .number) (contracts s) (free-none _ (p3 .0));
-        room = subst (λ (n : ℕ). s .taken < n) (sym (lengths (p1 .0) .places)) less }
+        room = subst (λ (n : ℕ). s .taken < n) (sym (lengths (p1 .0) .places)) less;
+      }
 
   -- a confirmation of the contract at an index
   pub record PassedConfirmation (index : ℕ) (weights : List ℕ) : Type 0 where
@@ -84,8 +86,8 @@ module _ {V : Type 0} (s : State V) where
   not-yet Ended e = refl
 
   at-index : (index agent : ℕ) (weights : List ℕ) →
-    eventCheck s Confirmation agent (index + 1) ≡ None → scaleCheck s (contractAt s (index + 1 - 1)) weights ≡ None →
-    (inForce (contractAt s index) ≡ false) × ((length weights ≡ s .sizes .hours) × (1 ≤ sum (clipped (contractAt s index .terms .first) (contractAt s index .terms .last) weights)))
+      eventCheck s Confirmation agent (index + 1) ≡ None → scaleCheck s (contractAt s (index + 1 - 1)) weights ≡ None →
+      (inForce (contractAt s index) ≡ false) × ((length weights ≡ s .sizes .hours) × (1 ≤ sum (clipped (contractAt s index .terms .first) (contractAt s index .terms .last) weights)))
   at-index index agent weights event scale =
       let e1 : index + 1 - 1 ≡ index = omega arith in
       let e2 = first-none (unless (allowed Confirmation (contractAt s (index + 1 - 1) .terms) agent) 9 (index + 1)) _ event in
@@ -93,13 +95,16 @@ module _ {V : Type 0} (s : State V) where
       let fits = unless-none _ 10 (index + 1) (e3 .0) in
       let c1 = first-none (unless (eqb (length weights) (s .sizes .hours)) 11 0) _ scale in
       let c2 = first-none (totalCheck (clipped (contractAt s (index + 1 - 1) .terms .first) (contractAt s (index + 1 - 1) .terms .last) weights)) [] (c1 .1) in
-      let c3 = first-none (unless (leb 1 (sum (clipped (contractAt s (index + 1 - 1) .terms .first) (contractAt s (index + 1 - 1) .terms .last) weights))) 12 0) _ (c2 .0) in
-      (subst (λ (n : ℕ). inForce (contractAt s n) ≡ false) e1 (not-yet (contractAt s (index + 1 - 1) .state) fits),
-       (eqb-true (length weights) (s .sizes .hours) (unless-none _ 11 0 (c1 .0)),
-        subst (λ (n : ℕ). 1 ≤ sum (clipped (contractAt s n .terms .first) (contractAt s n .terms .last) weights)) e1 (leb-true 1 _ (unless-none _ 12 0 (c3 .0)))))
+      let c3 = first-none (unless (leb 1 (sum (clipped (contractAt s (index + 1 - 1) .terms .first) (contractAt s (index + 1 - 1) .terms .last) weights))) 12 0) _ (c2 .0) in (
+        subst (λ (n : ℕ). inForce (contractAt s n) ≡ false) e1 (not-yet (contractAt s (index + 1 - 1) .state) fits),
+        (
+          eqb-true (length weights) (s .sizes .hours) (unless-none _ 11 0 (c1 .0)),
+          subst (λ (n : ℕ). 1 ≤ sum (clipped (contractAt s n .terms .first) (contractAt s n .terms .last) weights)) e1 (leb-true 1 _ (unless-none _ 12 0 (c3 .0))),
+        ),
+      )
 
   pub confirmation-passed : (number agent : ℕ) (weights : List ℕ) (index : ℕ) → placeOf number (contracts s) ≡ Some (index + 1) →
-    confirmRefusal s number agent weights ≡ None → PassedConfirmation index weights
+      confirmRefusal s number agent weights ≡ None → PassedConfirmation index weights
   confirmation-passed number agent weights index found e =
       let p1 = first-none (admitted s) _ e in
       let p2 = first-none (atNumber (placeOf number (contracts s)) _) _ (p1 .1) in

@@ -19,7 +19,7 @@ use Rattle.ledger.specs.Calls.{mapFrom, recut, standsFor, withEffective}
 
 -- more weights at the end change no share before them
 pub shared-longer : (run : ℕ → ℕ) (before : ℕ) (ws vs : List ℕ) (i : ℕ) → i < length ws →
-  getD (sharedBy run before (ws ++ vs)) i 0 ≡ getD (sharedBy run before ws) i 0
+    getD (sharedBy run before (ws ++ vs)) i 0 ≡ getD (sharedBy run before ws) i 0
 shared-longer run before [] vs i p = absurd (omega arith)
 shared-longer run before (w ∷ ws) vs zero p = refl
 shared-longer run before (w ∷ ws) vs (suc i) p = shared-longer run (before + w) ws vs i (omega arith)
@@ -27,26 +27,26 @@ shared-longer run before (w ∷ ws) vs (suc i) p = shared-longer run (before + w
 -- what the cut leaves of a claim, where `weights` has those of its seller in each class
 abbrev left : Rule → ℕ → ℕ → Claim → (ℕ → List ℕ) → ℕ
 left rule short i c weights =
-  c .amount - getD (sharesOf rule (classCut short (λ class. sum (weights class)) (c .class)) (weights (c .class))) i 0
+    c .amount - getD (sharesOf rule (classCut short (λ class. sum (weights class)) (c .class)) (weights (c .class))) i 0
 
 module _ (rule : Rule) (short : ℕ) where
   -- the rule reads a claim, and the weights of its seller
   pub effective-same : (cs ds : List Claim) (i : ℕ) → getD cs i noClaim ≡ getD ds i noClaim →
-    ((class : ℕ) → classWeights (getD ds i noClaim .seller) class cs ≡ classWeights (getD ds i noClaim .seller) class ds) →
-    effectiveAt rule short cs i ≡ effectiveAt rule short ds i
+      ((class : ℕ) → classWeights (getD ds i noClaim .seller) class cs ≡ classWeights (getD ds i noClaim .seller) class ds) →
+      effectiveAt rule short cs i ≡ effectiveAt rule short ds i
   effective-same cs ds i same weights =
       ap (λ (c : Claim). left rule short i c (λ class. classWeights (c .seller) class cs)) same
       ∙ ap (λ (ws : ℕ → List ℕ). left rule short i (getD ds i noClaim) ws) (fun-ext weights)
 
   -- a claim more that does not stand changes nothing
   pub effective-longer : (cs : List Claim) (c : Claim) (i : ℕ) → c .standing ≡ false → i < length cs →
-    effectiveAt rule short (cs ++ (c ∷ [])) i ≡ effectiveAt rule short cs i
+      effectiveAt rule short (cs ++ (c ∷ [])) i ≡ effectiveAt rule short cs i
   effective-longer cs c i idle p =
       let d = getD cs i noClaim in
       let ws : ℕ → List ℕ = λ class. classWeights (d .seller) class cs in
       let longer : (class : ℕ) → classWeights (d .seller) class (cs ++ (c ∷ [])) ≡ ws class ++ (0 ∷ []) =
-            λ class. map-push (weight (d .seller) class) cs c
-              ∙ ap (λ (w : ℕ). ws class ++ (w ∷ [])) (cond-false _ (c .amount) 0 (and-left (c .standing) _ idle)) in
+      λ class. map-push (weight (d .seller) class) cs c
+      ∙ ap (λ (w : ℕ). ws class ++ (w ∷ [])) (cond-false _ (c .amount) 0 (and-left (c .standing) _ idle)) in
       let total : (class : ℕ) → sum (ws class ++ (0 ∷ [])) ≡ sum (ws class) = λ class. sumBy-push (λ x. x) (ws class) 0 ∙ (let z : sum (ws class) + 0 ≡ sum (ws class) = omega arith in z) in
       let inside : i < length (ws (d .class)) = subst (λ (n : ℕ). i < n) (sym (length-map cs (weight (d .seller) (d .class)))) p in
       ap (λ (e : Claim). left rule short i e (λ class. classWeights (e .seller) class (cs ++ (c ∷ [])))) (getD-append-left cs (c ∷ []) noClaim i p)
@@ -57,16 +57,17 @@ module _ (rule : Rule) (short : ℕ) where
 
 -- two lists of claims that agree wherever a claim is of the seller have the same weights for it
 pub weights-same : (seller class : ℕ) (cs ds : List Claim) → length cs ≡ length ds →
-  ((i : ℕ) → i < length cs → (getD cs i noClaim ≡ getD ds i noClaim) ⊎ ((getD cs i noClaim .seller ≢ seller) × (getD ds i noClaim .seller ≢ seller))) →
-  classWeights seller class cs ≡ classWeights seller class ds
+    ((i : ℕ) → i < length cs → (getD cs i noClaim ≡ getD ds i noClaim) ⊎ ((getD cs i noClaim .seller ≢ seller) × (getD ds i noClaim .seller ≢ seller))) →
+    classWeights seller class cs ≡ classWeights seller class ds
 weights-same seller class cs ds long same =
     ext-getD 0 _ _ (length-map cs (weight seller class) ∙ long ∙ sym (length-map ds (weight seller class))) (λ i p.
-      let inside : i < length cs = subst (λ (n : ℕ). i < n) (length-map cs (weight seller class)) p in
-      getD-map (weight seller class) cs i noClaim 0 inside
-      ∙ elim (same i inside) [
-          inl e ↦ ap (weight seller class) e
-        | inr ne ↦ none (getD cs i noClaim) (ne .0) ∙ sym (none (getD ds i noClaim) (ne .1)) ]
-      ∙ sym (getD-map (weight seller class) ds i noClaim 0 (subst (λ (n : ℕ). i < n) long inside)))
+    let inside : i < length cs = subst (λ (n : ℕ). i < n) (length-map cs (weight seller class)) p in
+    getD-map (weight seller class) cs i noClaim 0 inside
+    ∙ elim (same i inside) [
+      | inl e ↦ ap (weight seller class) e
+      | inr ne ↦ none (getD cs i noClaim) (ne .0) ∙ sym (none (getD ds i noClaim) (ne .1))
+    ]
+    ∙ sym (getD-map (weight seller class) ds i noClaim 0 (subst (λ (n : ℕ). i < n) long inside)))
   where
     none : (c : Claim) → c .seller ≢ seller → weight seller class c ≡ 0
     none c ne = cond-false _ (c .amount) 0 (and-right (c .standing) _ (and-left (eqb (c .seller) seller) _ (ne-eqb (c .seller) seller ne)))

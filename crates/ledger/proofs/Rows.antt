@@ -41,12 +41,13 @@ module _ (hours i : ℕ) (row rows : List ℕ) (long : length row ≡ hours) (ro
   row-there j ne =
       let new = putRow hours i row rows in
       ext-getD 0 (rowOf hours new j) (rowOf hours rows j)
-        (length-take hours (drop (j * hours) new) ∙ ap (min hours) (length-drop (j * hours) new ∙ ap (λ (n : ℕ). n - j * hours) length-put ∙ sym (length-drop (j * hours) rows))
-          ∙ sym (length-take hours (drop (j * hours) rows)))
-        (λ x p.
-          let inside : x < hours = omega (arith, length-take hours (drop (j * hours) new)) in
-          getD-take hours (drop (j * hours) new) x 0 inside ∙ getD-drop (j * hours) new x 0
-          ∙ elim (cases-lt j i) [
-              inl less ↦ put-front (j * hours + x) (omega (arith, row-before j i hours less))
-            | inr more ↦ put-back (j * hours + x) (let less : i < j = omega arith in omega (arith, row-before i j hours less)) ]
-          ∙ sym (getD-take hours (drop (j * hours) rows) x 0 inside ∙ getD-drop (j * hours) rows x 0))
+      (length-take hours (drop (j * hours) new) ∙ ap (min hours) (length-drop (j * hours) new ∙ ap (λ (n : ℕ). n - j * hours) length-put ∙ sym (length-drop (j * hours) rows))
+      ∙ sym (length-take hours (drop (j * hours) rows)))
+      (λ x p.
+      let inside : x < hours = omega (arith, length-take hours (drop (j * hours) new)) in
+      getD-take hours (drop (j * hours) new) x 0 inside ∙ getD-drop (j * hours) new x 0
+      ∙ elim (cases-lt j i) [
+        | inl less ↦ put-front (j * hours + x) (omega (arith, row-before j i hours less))
+        | inr more ↦ put-back (j * hours + x) (let less : i < j = omega arith in omega (arith, row-before i j hours less))
+      ]
+      ∙ sym (getD-take hours (drop (j * hours) rows) x 0 inside ∙ getD-drop (j * hours) rows x 0))
