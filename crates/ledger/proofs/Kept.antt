@@ -33,6 +33,7 @@ pub record Confirmed (l : Line) : Type 0 where
 pub record Kept {V : Type 0} (k : Kind V) (b : Ledger) (s : State V) : Type 0 where
   pub count : length (b .lines) ≡ s .taken
   pub room : s .taken ≤ length (s .places)
+  pub places : length (s .places) ≡ s .sizes .places
   pub fit : (i : ℕ) → i < s .taken → Acceptable (s .sizes) (lineAt b i .fields)
   pub same : (i : ℕ) → i < s .taken → fields (contractAt s i .terms) ≡ lineAt b i .fields
   pub state : (i : ℕ) → i < s .taken → contractAt s i .state ≡ lineAt b i .state
@@ -156,6 +157,7 @@ module _ {V : Type 0} (k : Kind V) (laws : Laws (joins k)) (b d : Ledger) (selle
   settle = record {
     count = lines-long ∙ sym (moves .settled .taken);
     room = let r = kept .room in omega (arith, moves .settled .taken, moves .settled .places);
+    places = moves .settled .places ∙ kept .places ∙ ap (λ (z : Sizes). z .places) (sym (moves .settled .sizes));
     fit = λ i p. subst (λ (z : Sizes). Acceptable z (lineAt d i .fields)) (sym (moves .settled .sizes))
         (subst (Acceptable (s .sizes)) (sym (moves .fields i (back p))) (kept .fit i (back p)));
     same = λ i p. ap fields (terms-at i (back p)) ∙ kept .same i (back p) ∙ sym (moves .fields i (back p));

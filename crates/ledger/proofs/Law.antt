@@ -97,7 +97,7 @@ module _ {V : Type 0} (k : Kind V) (laws : Laws (joins k)) where
       }
 
   -- what every life keeps
-  kept-in-life : {past : List Event} {s : State V} → Lived k past s → Kept k (ledger past) s
+  pub kept-in-life : {past : List Event} {s : State V} → Lived k past s → Kept k (ledger past) s
   kept-in-life (opened {s} o) = opening-kept k s o
   kept-in-life (offered {past} {s} {t} o None was r) = offering-kept k laws (ledger past) s t (kept-in-life was) o (sym (r .answered)) (r .leaves)
   kept-in-life (offered {past} {s} {t} o (Some refusal) was r) = subst (Kept k (ledger past)) (sym (r .leaves)) (kept-in-life was)

@@ -10,3 +10,4 @@ pub mod Changed
 pub mod Sums
 pub mod Cuts
 pub mod Law
+pub mod Exact

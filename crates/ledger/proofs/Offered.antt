@@ -39,6 +39,7 @@ opening-kept k s o =
     record {
       count = sym (o .taken);
       room = let e = o .taken in omega arith;
+      places = o .places;
       fit = λ i p. absurd (none i p);
       same = λ i p. absurd (none i p);
       state = λ i p. absurd (none i p);
@@ -139,6 +140,7 @@ module _ {V : Type 0} (k : Kind V) (laws : Laws (joins k)) (b : Ledger) (s t : S
   offering-kept = record {
     count = length-push (b .lines) (entered o) ∙ ap (λ (n : ℕ). n + 1) (kept .count) ∙ sym (e .taken);
     room = let r = passed .room in omega (arith, e .taken, ap length (e .places), length-set (s .places) (s .taken) (e .contract));
+    places = ap length (e .places) ∙ length-set (s .places) (s .taken) (e .contract) ∙ kept .places ∙ ap (λ (z : Sizes). z .places) (sym (e .sizes));
     fit = each (λ i. Acceptable (t .sizes) (lineAt next i .fields))
         (λ i p. subst (λ (z : Sizes). Acceptable z (lineAt next i .fields)) (sym (e .sizes))
         (subst (λ (l : Line). Acceptable (s .sizes) (l .fields)) (sym (line-old i p)) (kept .fit i p)))
