@@ -2,13 +2,13 @@
 use mathlib.Core.Path.{_≡_, refl, ap, sym, _∙_, subst}
 use mathlib.Core.List.{List, [], _∷_, _++_}
 use mathlib.Core.Logic.{_⊎_, inl, inr}
-use Prim.Native.Nat.{ℕ, zero, suc, _+_, _-_, _*_, _/_, _≤_, _<_}
-use native.Mathlib.Nat.{suc-mul, mul-zero, zero-mul, add-zero, zero-add, add-mul, mul-add, mul-comm, mul-assoc, mul-le-mul-left, mul-le-mul-right, lt-of-mul-lt-mul-left, lt-of-mul-lt-mul-right, le-of-mul-le-mul-right, div-mul-le-self, lt-div-mul-add, add-assoc}
+use Prim.Native.Nat.{ℕ, zero, suc, _+_, _-_, _*_, _≤_, _<_}
+use native.Mathlib.Nat.{suc-mul, mul-zero, zero-mul, add-zero, zero-add, add-mul, mul-add, mul-le-mul-left, mul-le-mul-right, lt-of-mul-lt-mul-left, div-mul-le-self, lt-div-mul-add}
 use native.Mathlib.Omega.{arith}
 use lib.ListN.{length, take, drop, getD, set}
 use Rattle.std.specs.shelf.Lists.{sum}
 use Rattle.std.proofs.shelf.Lists.{take-all, drop-all, append-nil, append-assoc, take-more-set, drop-more}
-use Rattle.std.proofs.shelf.Sums.{sumBy-cons, sumBy-append, sumBy-take-le, sumBy-take-drop}
+use Rattle.std.proofs.shelf.Sums.{sumBy-cons}
 use Rattle.std.proofs.shelf.Tests.{cases-lt}
 use Rattle.scale.specs.Shares.{sharedBy, downTo, Rule, Sound, Shared, sharesOf, stretch, Within, Running}
 use Rattle.scale.specs.Fairness.{Fair}

@@ -1,6 +1,5 @@
 -- What the check of a total tells.
-use mathlib.Core.Path.{_≡_, refl, ap, sym, subst, _∙_}
-use mathlib.Core.Bool.{true, false, cond}
+use mathlib.Core.Path.{_≡_, ap, sym, subst, _∙_}
 use mathlib.Core.List.{List, [], _∷_}
 use mathlib.Core.Logic.{_⊎_, inl, inr}
 use Prim.Native.Nat.{ℕ, zero, suc, _+_, _-_, _≤_, _<_}
@@ -10,7 +9,7 @@ use lib.ListN.{length, take}
 use Rattle.std.specs.declared.option.Option.{Option}
 use Rattle.std.specs.declared.option.Option.the-variants.{Some, None}
 use Rattle.std.specs.shelf.Lists.{sum}
-use Rattle.std.proofs.shelf.Lists.{take-all, take-take}
+use Rattle.std.proofs.shelf.Lists.{take-take}
 use Rattle.std.proofs.shelf.Sums.{sumBy-cons, sumBy-take-le}
 use Rattle.std.proofs.shelf.Tests.{cases-lt, le-leb, lt-leb, eq-eqb, cond-true, cond-false}
 use Rattle.scale.specs.Refusals.{Refusal, refusal, unless, firstOf}

@@ -7,6 +7,7 @@ ghost use Rattle.std.specs.Results.{Cases};
 ghost use Rattle.std.specs.Vec.{made};
 ghost use Rattle.scale.specs.Refusals.{refusalOf};
 ghost use Rattle.scale.specs.Shares.{downTo, sharesOf, shareCheck, partCheck, Shared};
+ghost use Rattle.scale.specs.Totals.{limit};
 ghost use Rattle.scale.specs.Weights.{clipped, weightAt};
 use crate::clip::Clip;
 use crate::clip::ClipScale;
@@ -20,7 +21,7 @@ use crate::weights::Scale;
 
 // What the parts up to a weight get together: the rounding, down.
 fn given(amount: u32, total: u32, weight: u32) -> u32
-    requires { ⌜ amount ≤ 2000000000 ⌝ ∗ ⌜ 1 ≤ total ⌝ ∗ ⌜ weight ≤ total ⌝ }
+    requires { ⌜ amount ≤ limit ⌝ ∗ ⌜ 1 ≤ total ⌝ ∗ ⌜ weight ≤ total ⌝ }
     ensures { λ r. ⌜ r ≡ downTo amount total weight ⌝ }
 {
     (amount as u64 * weight as u64 / total as u64) as u32
@@ -28,7 +29,7 @@ fn given(amount: u32, total: u32, weight: u32) -> u32
 
 // Shares an amount over a scale whose total is known: one division a part, since what went before is kept.
 fn spread<S: Scale>(amount: u32, total: u32, scale: &S, out: &mut [u32])
-    requires { ⌜ amount ≤ 2000000000 ⌝ ∗ ⌜ 1 ≤ total ⌝ ∗ ⌜ total ≤ 2000000000 ⌝ ∗ ⌜ total ≡ sum (S·Scale .weights (now scale)) ⌝ ∗ ⌜ length (now out) ≡ length (S·Scale .weights (now scale)) ⌝ }
+    requires { ⌜ amount ≤ limit ⌝ ∗ ⌜ 1 ≤ total ⌝ ∗ ⌜ total ≤ limit ⌝ ∗ ⌜ total ≡ sum (S·Scale .weights (now scale)) ⌝ ∗ ⌜ length (now out) ≡ length (S·Scale .weights (now scale)) ⌝ }
     ensures { λ _. ⌜ now (out .exit) ≡ sharesOf downTo amount (S·Scale .weights (now (scale .entry))) ⌝ }
 {
     let mut weight: u32 = 0;
@@ -80,7 +81,7 @@ pub fn fill_row<S: Scale>(
 
 // The weight of so many parts from the first on.
 fn weight_of_first<S: Scale>(scale: &S, parts: usize) -> u32
-    requires { ⌜ parts ≤ length (S·Scale .weights (now scale)) ⌝ ∗ ⌜ sum (S·Scale .weights (now scale)) ≤ 2000000000 ⌝ }
+    requires { ⌜ parts ≤ length (S·Scale .weights (now scale)) ⌝ ∗ ⌜ sum (S·Scale .weights (now scale)) ≤ limit ⌝ }
     ensures { λ r. ⌜ r ≡ sum (take parts (S·Scale .weights (now (scale .entry)))) ⌝ }
 {
     let mut so_far: u32 = 0;

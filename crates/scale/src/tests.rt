@@ -1,6 +1,8 @@
 use crate::even::EvenScale;
 use crate::even::EvenScaleScale;
 use crate::fault::Fault;
+use crate::fault::FaultDebug;
+use crate::fault::FaultPartialEq;
 use crate::fault::Reason;
 use crate::row::RowScale;
 use crate::row::RowScaleScale;
@@ -8,6 +10,14 @@ use crate::share::fill_row;
 use crate::share::share;
 use crate::total::total;
 use std::test::*;
+
+fn fault(reason: Reason, spot: usize) -> Fault {
+    Fault { reason, spot }
+}
+
+fn total_of(row: &[u32]) -> Result<u32, Fault> {
+    total(&RowScale::new(row))
+}
 
 #[test]
 fn five_over_ten_even_hours() -> Result<(), Fail> {
@@ -19,24 +29,12 @@ fn five_over_ten_even_hours() -> Result<(), Fail> {
 #[test]
 fn totals_at_their_limits() -> Result<(), Fail> {
     let billion = 1_000_000_000;
+    check_eq(total_of(&[0, 0]), Err(fault(Reason::ScaleWeightless, 0)))?;
+    check_eq(total_of(&[0, 1]), Ok(1))?;
+    check_eq(total_of(&[billion, billion]), Ok(2_000_000_000))?;
     check_eq(
-        total(&RowScale::new(&[0, 0])),
-        Err(Fault {
-            reason: Reason::ScaleWeightless,
-            spot: 0,
-        }),
-    )?;
-    check_eq(total(&RowScale::new(&[0, 1])), Ok(1))?;
-    check_eq(
-        total(&RowScale::new(&[billion, billion])),
-        Ok(2_000_000_000),
-    )?;
-    check_eq(
-        total(&RowScale::new(&[billion, billion, 0, 1])),
-        Err(Fault {
-            reason: Reason::ScaleHeavy,
-            spot: 4,
-        }),
+        total_of(&[billion, billion, 0, 1]),
+        Err(fault(Reason::ScaleHeavy, 4)),
     )
 }
 
@@ -45,17 +43,11 @@ fn a_refusal_leaves_the_memory() -> Result<(), Fail> {
     let mut row = [7, 8];
     check_eq(
         share(5, &EvenScale::new(3), &mut row),
-        Err(Fault {
-            reason: Reason::ScaleLength,
-            spot: 0,
-        }),
+        Err(fault(Reason::ScaleLength, 0)),
     )?;
     check_eq(
         share(2_000_000_001, &EvenScale::new(2), &mut row),
-        Err(Fault {
-            reason: Reason::FieldOutside,
-            spot: 1,
-        }),
+        Err(fault(Reason::FieldOutside, 1)),
     )?;
     check_eq(row, [7, 8])
 }

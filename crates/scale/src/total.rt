@@ -4,7 +4,7 @@ ghost use Prim.Native.Nat.{_≤_};
 ghost use Rattle.std.specs.shelf.Lists.{sum};
 ghost use Rattle.std.specs.Vec.{made};
 ghost use Rattle.scale.specs.Refusals.{refusalOf};
-ghost use Rattle.scale.specs.Totals.{totalCheck, Told};
+ghost use Rattle.scale.specs.Totals.{limit, totalCheck, Told};
 use crate::fault::Fault;
 use crate::fault::Reason;
 use crate::weights::Scale;
@@ -15,7 +15,7 @@ pub const MOST: u32 = 2_000_000_000;
 // The total weight of a scale, from 1 to MOST. `law` says in the subject's words what the check tells.
 pub fn total<S: Scale>(scale: &S) -> Result<u32, Fault>
     ensures answer { λ r. ⌜ refusalOf r ≡ totalCheck (S·Scale .weights (now (scale .entry))) ⌝ }
-    ensures value { λ r. ⌜ made r (λ t. (t ≡ sum (S·Scale .weights (now (scale .entry)))) × (1 ≤ t) × (t ≤ 2000000000)) ⌝ }
+    ensures value { λ r. ⌜ made r (λ t. (t ≡ sum (S·Scale .weights (now (scale .entry)))) × (1 ≤ t) × (t ≤ limit)) ⌝ }
     ensures law { λ _. ⌜ Told (S·Scale .weights (now (scale .entry))) ⌝ }
 {
     let mut so_far: u32 = 0;

@@ -1,10 +1,10 @@
 use mathlib.Core.Path.{_≡_, refl, ap, sym, _∙_}
 use Prim.Native.Nat.{ℕ, _<_, _≤_, _+_, _-_}
 use native.Mathlib.Omega.{arith}
-use lib.ListN.{length, take, drop, getD}
+use lib.ListN.{length, take, getD}
 use Rattle.std.specs.shelf.Lists.{sum}
 use Rattle.std.proofs.shelf.Sums.{sumBy-take-le}
-use Rattle.scale.specs.Shares.{Running, downTo, sharesOf, sharedBy}
+use Rattle.scale.specs.Shares.{downTo, sharedBy}
 use Rattle.scale.proofs.Parts.{total-next, weight-next}
 use Rattle.scale.proofs.Running.{down-sound, run-zero, run-rising, shared-step, shared-done}
 use Rattle.scale.proofs.share.spread.Needs as need

@@ -1,5 +1,4 @@
 use borrow.Author.Needs.{needs}
-use native.Mathlib.Omega.{arith}
 use Rattle.scale.proofs.Parts.{even-in, weight-past, weight-zero}
 use Rattle.std.proofs.shelf.Lists.{length-replicate}
 use Rattle.scale.proofs.even.EvenScaleScale.weight.Needs as need
