@@ -1,2 +1,13 @@
+pub mod Lanes
+pub mod Board
+pub mod Recut
+pub mod Numbers
+pub mod Passed
+pub mod Rows
+pub mod Kept
+pub mod Offered
+pub mod Changed
 pub mod Sums
 pub mod Cuts
+pub mod Law
+pub mod Exact

@@ -53,7 +53,7 @@ stays old new = inForce old && (inForce new && eqb (old .effective) (new .effect
 -- what a place puts on a lane at an hour as its contract changes: the old quantity is taken off, the new one added
 abbrev pub changes : {V : Type 0} → Kind V → Rule → Contract → List ℕ → Contract → List ℕ → ℕ → ℕ → V
 changes k rule old oldRow new newRow l hour =
-  cond (stays old new) (k .nothing) (k .join (takesOff k rule old oldRow l hour) (puts k rule new newRow l hour))
+    cond (stays old new) (k .nothing) (k .join (takesOff k rule old oldRow l hour) (puts k rule new newRow l hour))
 
 -- each quantity of a contract in force cancels with its opposite
 abbrev pub AllCancel : {V : Type 0} → Kind V → Rule → ℕ → Contract → List ℕ → Type 0
@@ -64,8 +64,8 @@ AllCancel k rule hours c row = inForce c ≡ true → (hour : ℕ) → hour < ho
 pub record Revised {V : Type 0} (k : Kind V) (rule : Rule) (s t : State V) : Type 0 where
   pub long : length (t .board) ≡ length (s .board)
   pub cells : (l hour : ℕ) → l < s .sizes .agents * 4 → hour < s .sizes .hours →
-    cell k (s .sizes .hours) (t .board) l hour
-    ≡ k .join (cell k (s .sizes .hours) (s .board) l hour)
-        (upTo (joins k) (s .taken) (λ i. changes k rule (contractAt s i) (rowAt s i) (contractAt t i) (rowAt t i) l hour))
+      cell k (s .sizes .hours) (t .board) l hour
+      ≡ k .join (cell k (s .sizes .hours) (s .board) l hour)
+      (upTo (joins k) (s .taken) (λ i. changes k rule (contractAt s i) (rowAt s i) (contractAt t i) (rowAt t i) l hour))
   pub cancels : (i : ℕ) → i < s .taken → stays (contractAt s i) (contractAt t i) ≡ false →
-    AllCancel k rule (s .sizes .hours) (contractAt s i) (rowAt s i) × AllCancel k rule (s .sizes .hours) (contractAt t i) (rowAt t i)
+      AllCancel k rule (s .sizes .hours) (contractAt s i) (rowAt s i) × AllCancel k rule (s .sizes .hours) (contractAt t i) (rowAt t i)

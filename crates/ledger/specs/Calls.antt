@@ -44,7 +44,7 @@ standsFor seller c = inForce c && eqb (c .terms .seller) seller
 -- a seller's contracts in force, each with the effective amount that the cut rule gives it; the others as they are
 abbrev pub recut : Rule → ℕ → ℕ → List Contract → List Contract
 recut rule seller short cs =
-  mapFrom (λ i c. cond (standsFor seller c) (withEffective (effectiveAt rule short (map claimOf cs) i) c) c) 0 cs
+    mapFrom (λ i c. cond (standsFor seller c) (withEffective (effectiveAt rule short (map claimOf cs) i) c) c) 0 cs
 
 -- a row written at a place, which counts from 0
 abbrev pub putRow : ℕ → ℕ → List ℕ → List ℕ → List ℕ
@@ -81,7 +81,7 @@ pub record Enforced {V : Type 0} (k : Kind V) (number : ℕ) (weights : List ℕ
   pub index : ℕ
   pub found : placeOf number (contracts s) ≡ Some (index + 1)
   pub rows : t .rows ≡ putRow (s .sizes .hours) index
-    (sharesOf rounding (contractAt s index .terms .amount) (clipped (contractAt s index .terms .first) (contractAt s index .terms .last) weights)) (s .rows)
+      (sharesOf rounding (contractAt s index .terms .amount) (clipped (contractAt s index .terms .first) (contractAt s index .terms .last) weights)) (s .rows)
   pub shortfalls : t .shortfalls ≡ s .shortfalls
   pub settled : Resettled k (contractAt s index .terms .seller) (set (contracts s) index (withState InForce (contractAt s index))) s t
 

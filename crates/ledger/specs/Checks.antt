@@ -26,15 +26,25 @@ use Rattle.ledger.specs.States.{State, contracts, contractAt, blank}
 -- the lengths of the four memories, exact; the first wrong one is told
 abbrev pub lengthCheck : ℕ → ℕ → ℕ → ℕ → ℕ → ℕ → ℕ → Option Refusal
 lengthCheck agents hours size places rows shortfalls board = firstOf (
-  unless (eqb places size) 1 1
-  ∷ unless (eqb rows (size * hours)) 1 2
-  ∷ unless (eqb shortfalls agents) 1 3
-  ∷ unless (eqb board (agents * 4 * hours)) 1 4
-  ∷ [])
+    unless (eqb places size) 1 1
+    ∷ unless (eqb rows (size * hours)) 1 2
+    ∷ unless (eqb shortfalls agents) 1 3
+    ∷ unless (eqb board (agents * 4 * hours)) 1 4
+    ∷ [])
 
 abbrev pub openRefusal : ℕ → ℕ → ℕ → ℕ → ℕ → ℕ → ℕ → Option Refusal
 openRefusal agents hours size places rows shortfalls board =
-  firstOf (firstOf (sizeChecks agents hours size) ∷ lengthCheck agents hours size places rows shortfalls board ∷ [])
+    firstOf (firstOf (sizeChecks agents hours size) ∷ lengthCheck agents hours size places rows shortfalls board ∷ [])
+
+-- a number must be a contract's, which then meets the checks that follow
+abbrev pub atNumber : Option ℕ → (ℕ → Option Refusal) → Option Refusal
+atNumber None checks = Some (refusal 8 0)
+atNumber (Some place) checks = checks place
+
+-- a number must be no contract's
+abbrev pub free : Option ℕ → Option Refusal
+free None = None
+free (Some place) = Some (refusal 6 place)
 
 -- a number must be a contract's, which then meets the checks that follow
 abbrev pub atNumber : Option ℕ → (ℕ → Option Refusal) → Option Refusal
@@ -49,7 +59,7 @@ free (Some place) = Some (refusal 6 place)
 module _ {V : Type 0} (s : State V) where
   abbrev pub lengthsOf : Option Refusal
   lengthsOf = lengthCheck (s .sizes .agents) (s .sizes .hours) (s .sizes .places)
-    (length (s .places)) (length (s .rows)) (length (s .shortfalls)) (length (s .board))
+      (length (s .places)) (length (s .rows)) (length (s .shortfalls)) (length (s .board))
 
   -- the memories are as long as they must be, and the book is sound
   abbrev pub admitted : Option Refusal
@@ -57,41 +67,41 @@ module _ {V : Type 0} (s : State V) where
 
   abbrev pub offerRefusal : Offer → Option Refusal
   offerRefusal o = firstOf (
-    admitted
-    ∷ firstOf (offerChecks (s .sizes) o)
-    ∷ free (placeOf (o .number) (contracts s))
-    ∷ unless (ltb (s .taken) (s .sizes .places)) 7 0
-    ∷ [])
+      admitted
+      ∷ firstOf (offerChecks (s .sizes) o)
+      ∷ free (placeOf (o .number) (contracts s))
+      ∷ unless (ltb (s .taken) (s .sizes .places)) 7 0
+      ∷ [])
 
   -- the party must be allowed the event, and the contract's state must fit it
   abbrev pub eventCheck : Event → ℕ → ℕ → Option Refusal
   eventCheck event agent place = firstOf (
-    unless (allowed event (contractAt s (place - 1) .terms) agent) 9 place
-    ∷ unless (isSome (nextState (contractAt s (place - 1) .state) event)) 10 place
-    ∷ [])
+      unless (allowed event (contractAt s (place - 1) .terms) agent) 9 place
+      ∷ unless (isSome (nextState (contractAt s (place - 1) .state) event)) 10 place
+      ∷ [])
 
   abbrev pub scaleCheck : Contract → List ℕ → Option Refusal
   scaleCheck c weights = firstOf (
-    unless (eqb (length weights) (s .sizes .hours)) 11 0
-    ∷ totalCheck (clipped (c .terms .first) (c .terms .last) weights)
-    ∷ [])
+      unless (eqb (length weights) (s .sizes .hours)) 11 0
+      ∷ totalCheck (clipped (c .terms .first) (c .terms .last) weights)
+      ∷ [])
 
   abbrev pub confirmRefusal : ℕ → ℕ → List ℕ → Option Refusal
   confirmRefusal number agent weights = firstOf (
-    admitted
-    ∷ atNumber (placeOf number (contracts s)) (λ place. firstOf (
-        eventCheck Confirmation agent place
-        ∷ scaleCheck (contractAt s (place - 1)) weights
-        ∷ unless (leb (sellerTotal (contractAt s (place - 1) .terms .seller) (contracts s) + contractAt s (place - 1) .terms .amount) mostTotal) 15 place
-        ∷ []))
-    ∷ [])
+      admitted
+      ∷ atNumber (placeOf number (contracts s)) (λ place. firstOf (
+      eventCheck Confirmation agent place
+      ∷ scaleCheck (contractAt s (place - 1)) weights
+      ∷ unless (leb (sellerTotal (contractAt s (place - 1) .terms .seller) (contracts s) + contractAt s (place - 1) .terms .amount) mostTotal) 15 place
+      ∷ []))
+      ∷ [])
 
   abbrev pub endRefusal : ℕ → ℕ → Option Refusal
   endRefusal number agent = firstOf (admitted ∷ atNumber (placeOf number (contracts s)) (eventCheck Ending agent) ∷ [])
 
   abbrev pub tellRefusal : ℕ → ℕ → Option Refusal
   tellRefusal agent kwh = firstOf (
-    admitted ∷ unless (between 1 (s .sizes .agents) agent) 4 1 ∷ unless (leb kwh mostTotal) 16 0 ∷ [])
+      admitted ∷ unless (between 1 (s .sizes .agents) agent) 4 1 ∷ unless (leb kwh mostTotal) 16 0 ∷ [])
 
   abbrev pub turnoverRefusal : ℕ → Option Refusal
   turnoverRefusal agent = firstOf (admitted ∷ unless (between 1 (s .sizes .agents) agent) 4 1 ∷ [])
@@ -101,25 +111,25 @@ module _ {V : Type 0} (s : State V) where
 
   abbrev pub quantityRefusal : ℕ → ℕ → Option Refusal
   quantityRefusal number hour = firstOf (
-    admitted
-    ∷ atNumber (placeOf number (contracts s)) (λ place. firstOf (
-        unless (between 1 (s .sizes .hours) hour) 4 2
-        ∷ unless (inForce (contractAt s (place - 1))) 10 place
-        ∷ []))
-    ∷ [])
+      admitted
+      ∷ atNumber (placeOf number (contracts s)) (λ place. firstOf (
+      unless (between 1 (s .sizes .hours) hour) 4 2
+      ∷ unless (inForce (contractAt s (place - 1))) 10 place
+      ∷ []))
+      ∷ [])
 
 -- position takes only the board
 abbrev pub positionRefusal : Sizes → ℕ → ℕ → ℕ → ℕ → Option Refusal
 positionRefusal sizes board agent submarket hour = firstOf (
-  unless (eqb board (sizes .agents * 4 * sizes .hours)) 1 4
-  ∷ unless (between 1 (sizes .agents) agent) 4 1
-  ∷ unless (between 1 4 submarket) 4 2
-  ∷ unless (between 1 (sizes .hours) hour) 4 3
-  ∷ [])
+    unless (eqb board (sizes .agents * 4 * sizes .hours)) 1 4
+    ∷ unless (between 1 (sizes .agents) agent) 4 1
+    ∷ unless (between 1 4 submarket) 4 2
+    ∷ unless (between 1 (sizes .hours) hour) 4 3
+    ∷ [])
 
 abbrev pub balanceRefusal : Sizes → ℕ → ℕ → ℕ → Option Refusal
 balanceRefusal sizes board submarket hour = firstOf (
-  unless (eqb board (sizes .agents * 4 * sizes .hours)) 1 4
-  ∷ unless (between 1 4 submarket) 4 1
-  ∷ unless (between 1 (sizes .hours) hour) 4 2
-  ∷ [])
+    unless (eqb board (sizes .agents * 4 * sizes .hours)) 1 4
+    ∷ unless (between 1 4 submarket) 4 1
+    ∷ unless (between 1 (sizes .hours) hour) 4 2
+    ∷ [])

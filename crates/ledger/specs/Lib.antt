@@ -5,3 +5,4 @@ pub mod Calls
 pub mod Past
 pub mod Balance
 pub mod Lives
+pub mod Differences

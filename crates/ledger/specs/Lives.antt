@@ -19,13 +19,13 @@ event call answer = record { call = call; accepted = not (isSome answer) }
 pub data Lived {V : Type 0} (k : Kind V) : List Event → State V → Type 0 where
   opened : {s : State V} → Opened k s → Lived k [] s
   offered : {past : List Event} {s t : State V} (o : Offer) (answer : Option Refusal) →
-    Lived k past s → Offering o answer s t → Lived k (event (offering o) answer ∷ past) t
+      Lived k past s → Offering o answer s t → Lived k (event (offering o) answer ∷ past) t
   confirmed : {past : List Event} {s t : State V} (number agent : ℕ) (weights : List ℕ) (answer : Option Refusal) →
-    Lived k past s → Confirming k number agent weights answer s t → Lived k (event (confirming number agent weights) answer ∷ past) t
+      Lived k past s → Confirming k number agent weights answer s t → Lived k (event (confirming number agent weights) answer ∷ past) t
   ended : {past : List Event} {s t : State V} (number agent : ℕ) (answer : Option Refusal) →
-    Lived k past s → Ending k number agent answer s t → Lived k (event (ending number agent) answer ∷ past) t
+      Lived k past s → Ending k number agent answer s t → Lived k (event (ending number agent) answer ∷ past) t
   told : {past : List Event} {s t : State V} (agent kwh : ℕ) (answer : Option Refusal) →
-    Lived k past s → Telling k agent kwh answer s t → Lived k (event (telling agent kwh) answer ∷ past) t
+      Lived k past s → Telling k agent kwh answer s t → Lived k (event (telling agent kwh) answer ∷ past) t
 
 -- a call leads every life of the month on, to one that balances
 abbrev pub LeadsOn : {V : Type 0} → Kind V → Call → Option Refusal → State V → State V → Type 0

@@ -46,9 +46,11 @@ entered o = record { fields = o; state = Offered; weights = []; row = [] }
 
 abbrev pub confirmed : List ℕ → Line → Line
 confirmed ws l = record {
-  fields = l .fields; state = InForce;
+  fields = l .fields;
+  state = InForce;
   weights = clipped (l .fields .first) (l .fields .last) ws;
-  row = sharesOf rounding (l .fields .amount) (clipped (l .fields .first) (l .fields .last) ws) }
+  row = sharesOf rounding (l .fields .amount) (clipped (l .fields .first) (l .fields .last) ws);
+}
 
 abbrev pub ended : Line → Line
 ended l = record { fields = l .fields; state = Ended; weights = l .weights; row = l .row }
@@ -101,12 +103,12 @@ sourceOf (suc n) = Incentivised
 -- or the opposite of what it bought, there.
 abbrev pub traded : {V : Type 0} → Kind V → Offer → ℕ → ℕ → ℕ → V
 traded k o agent submarket q =
-  cond (eqb (o .submarket) submarket)
+    cond (eqb (o .submarket) submarket)
     (cond (eqb (o .seller) agent) (k .sold q (sourceOf (o .source)))
-      (cond (eqb (o .buyer) agent) (k .bought q (sourceOf (o .source))) (k .nothing)))
+    (cond (eqb (o .buyer) agent) (k .bought q (sourceOf (o .source))) (k .nothing)))
     (k .nothing)
 
 -- an agent's position by the ledger: joined over the contracts in force
 abbrev pub positionIn : {V : Type 0} → Kind V → Ledger → ℕ → ℕ → ℕ → V
 positionIn k b agent submarket hour = upTo (joins k) (length (b .lines))
-  (λ i. cond (stands (lineAt b i)) (traded k (lineAt b i .fields) agent submarket (weightAt (quantitiesIn b i) hour)) (k .nothing))
+    (λ i. cond (stands (lineAt b i)) (traded k (lineAt b i .fields) agent submarket (weightAt (quantitiesIn b i) hour)) (k .nothing))

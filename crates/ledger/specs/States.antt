@@ -26,7 +26,9 @@ contracts s = take (s .taken) (s .places)
 abbrev pub blank : Contract
 blank = record {
   terms = record { number = 0; seller = 0; buyer = 0; submarket = 0; class = Plant; source = Conventional; first = 0; last = 0; amount = 0 };
-  effective = 0; state = Ended }
+  effective = 0;
+  state = Ended;
+}
 
 -- the contract at a taken place, and its row; places count from 0 here
 abbrev pub contractAt : {V : Type 0} → State V → ℕ → Contract
