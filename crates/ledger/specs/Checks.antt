@@ -46,16 +46,6 @@ abbrev pub free : Option ℕ → Option Refusal
 free None = None
 free (Some place) = Some (refusal 6 place)
 
--- a number must be a contract's, which then meets the checks that follow
-abbrev pub atNumber : Option ℕ → (ℕ → Option Refusal) → Option Refusal
-atNumber None checks = Some (refusal 8 0)
-atNumber (Some place) checks = checks place
-
--- a number must be no contract's
-abbrev pub free : Option ℕ → Option Refusal
-free None = None
-free (Some place) = Some (refusal 6 place)
-
 module _ {V : Type 0} (s : State V) where
   abbrev pub lengthsOf : Option Refusal
   lengthsOf = lengthCheck (s .sizes .agents) (s .sizes .hours) (s .sizes .places)

@@ -7,6 +7,7 @@ ghost use Rattle.entry.specs.Kinds.{meaning};
 ghost use Rattle.book.specs.Sizing.{Holds};
 ghost use Rattle.ledger.specs.Calls.{Opened};
 ghost use Rattle.ledger.specs.Checks.{openRefusal};
+ghost use Rattle.ledger.specs.Lives.{Begins};
 ghost use Rattle.month.specs.Months.{stateOf};
 use super::Month;
 use super::Open;
@@ -39,7 +40,8 @@ impl Month<Open> {
     ) -> Result<Month<Open>, Fault>
         ensures answer { λ r. ⌜ refusalOf r ≡ openRefusal agents hours size (length (now (places .entry))) (length (now (rows .entry))) (length (now (shortfalls .entry))) (length (now (board .entry))) ⌝ }
         ensures opened { λ r. ⌜ Cases r
-            (λ m. Holds (m .sizes) agents hours size × Opened (meaning E·Joining E·Reversible) (stateOf E·Joining m (now (places .entry)) (now (rows .entry)) (now (shortfalls .exit)) (now (board .exit))))
+            (λ m. Holds (m .sizes) agents hours size × Opened (meaning E·Joining E·Reversible) (stateOf E·Joining m (now (places .entry)) (now (rows .entry)) (now (shortfalls .exit)) (now (board .exit)))
+                × Begins (meaning E·Joining E·Reversible) (stateOf E·Joining m (now (places .entry)) (now (rows .entry)) (now (shortfalls .exit)) (now (board .exit))))
             (λ _. (now (shortfalls .exit) ≡ now (shortfalls .entry)) × (now (board .exit) ≡ now (board .entry))) ⌝ }
     {
         let sizes = Sizes::new(agents, hours, size)?;
