@@ -1,0 +1,4 @@
+pub mod Numbers
+pub mod Spelled
+pub mod Meant
+pub mod Pushed
