@@ -67,9 +67,7 @@ fn read_numbers(text: &[u8]) -> Option<Numbers>
         }
         let after = &rest[1..];
         let (word, left) = after.split_at(word_len(after));
-        let Some(n) = number(word) else {
-            return None;
-        };
+        let n = number(word)?;
         values[count] = n;
         count += 1;
         rest = left;
@@ -97,10 +95,7 @@ fn shorts<const N: usize>(numbers: &[u64]) -> Option<[u16; N]>
 fn open(numbers: &[u64]) -> Option<Command>
     ensures { λ r. ⌜ Means 77 (now (numbers .entry)) r ⌝ }
 {
-    let Some(n) = shorts::<4>(numbers) else {
-        return None;
-    };
-    let [agents, hours, places, kind] = n;
+    let [agents, hours, places, kind] = shorts::<4>(numbers)?;
     Some(Command::Open {
         agents,
         hours,
@@ -120,10 +115,7 @@ fn offer(numbers: &[u64]) -> Option<Command>
     if amount > 4294967295 {
         return None;
     }
-    let Some(n) = shorts::<8>(front) else {
-        return None;
-    };
-    let [number, seller, buyer, submarket, class, source, first, last] = n;
+    let [number, seller, buyer, submarket, class, source, first, last] = shorts::<8>(front)?;
     Some(Command::Offer {
         number,
         seller,
@@ -140,20 +132,14 @@ fn offer(numbers: &[u64]) -> Option<Command>
 fn confirm(numbers: &[u64]) -> Option<Command>
     ensures { λ r. ⌜ Means 67 (now (numbers .entry)) r ⌝ }
 {
-    let Some(n) = shorts::<2>(numbers) else {
-        return None;
-    };
-    let [number, agent] = n;
+    let [number, agent] = shorts::<2>(numbers)?;
     Some(Command::Confirm { number, agent })
 }
 
 fn finish(numbers: &[u64]) -> Option<Command>
     ensures { λ r. ⌜ Means 69 (now (numbers .entry)) r ⌝ }
 {
-    let Some(n) = shorts::<2>(numbers) else {
-        return None;
-    };
-    let [number, agent] = n;
+    let [number, agent] = shorts::<2>(numbers)?;
     Some(Command::End { number, agent })
 }
 
@@ -172,10 +158,7 @@ fn tell(numbers: &[u64]) -> Option<Command>
 fn position(numbers: &[u64]) -> Option<Command>
     ensures { λ r. ⌜ Means 80 (now (numbers .entry)) r ⌝ }
 {
-    let Some(n) = shorts::<3>(numbers) else {
-        return None;
-    };
-    let [agent, submarket, hour] = n;
+    let [agent, submarket, hour] = shorts::<3>(numbers)?;
     Some(Command::Position {
         agent,
         submarket,
@@ -196,10 +179,8 @@ fn close(numbers: &[u64]) -> Option<Command>
 fn certificate(numbers: &[u64]) -> Option<Command>
     ensures { λ r. ⌜ Means 84 (now (numbers .entry)) r ⌝ }
 {
-    let Some(n) = shorts::<1>(numbers) else {
-        return None;
-    };
-    Some(Command::Certificate { agent: n[0] })
+    let [agent] = shorts::<1>(numbers)?;
+    Some(Command::Certificate { agent })
 }
 
 fn meant(letter: u8, numbers: &[u64]) -> Option<Command>
@@ -226,8 +207,6 @@ pub fn parse_line(line: &[u8]) -> Option<Command>
     if line.len() == 0 {
         return None;
     }
-    let Some(found) = read_numbers(&line[1..]) else {
-        return None;
-    };
+    let found = read_numbers(&line[1..])?;
     meant(line[0], &found.values[0..found.count])
 }

@@ -13,19 +13,19 @@ returns-then-count-eq9 c = λ ns w few e. too-many (c .loop-rest .inv .2) (c .lo
 pub returns-then-rest-ne32 : need.returns-then-rest-ne32
 returns-then-rest-ne32 c = λ ns w few e. no-space (c .loop-rest .inv .2) (c .loop-rest-test .taken) ns w e (c .if-rest-ne32 .taken)
 
-pub returns-in-rest : need.returns-in-rest
-returns-in-rest c =
+pub returns-in-Break-n : need.returns-in-Break-n
+returns-in-Break-n c =
     let cut = cut-at _ _ _ _ _ (c .loop-rest-test .taken) (c .if-rest-ne32 .left) refl (c .split-at .ensures .front) (c .split-at .ensures .back) (c .word-len .ensures .within) (c .word-len .ensures .solid) (c .word-len .ensures .stops) in
-    λ ns w few e. no-number (c .loop-rest .inv .2) (c .loop-rest-test .taken) ns w e _ _ (cut .whole) (cut .solid) (cut .ends) (c .in-rest .ensures tt)
+    simp (c .from-residual .ensures) (λ ns w few e. no-number (c .loop-rest .inv .2) (c .loop-rest-test .taken) ns w e _ _ (cut .whole) (cut .solid) (cut .ends) (c .in-Break-n .ensures tt))
 
 pub loop-rest-again : need.loop-rest-again
 loop-rest-again c =
     let cut = cut-at _ _ _ _ _ (c .loop-rest-test .taken) (c .if-rest-ne32 .left) refl (c .split-at .ensures .front) (c .split-at .ensures .back) (c .word-len .ensures .within) (c .word-len .ensures .solid) (c .word-len .ensures .stops) in
-    let n = c .in-Some .n in (
+    let n = c .in-Continue-n .n in (
       omega arith,
       length-set _ _ _ ∙ c .loop-rest .inv .1,
       rw (take-more-set (c .loop-rest .values) (c .loop-rest .count) n (omega arith))
-          (one-more _ _ _ _ _ n (c .loop-rest .inv .2) (c .loop-rest-test .taken) (cut .whole) (cut .solid) (cut .ends) (omega arith) (c .in-Some .ensures tt)),
+          (one-more _ _ _ _ _ n (c .loop-rest .inv .2) (c .loop-rest-test .taken) (cut .whole) (cut .solid) (cut .ends) (omega arith) (c .in-Continue-n .ensures tt)),
     )
 
 pub returns : need.returns
