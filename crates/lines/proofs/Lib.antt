@@ -1,4 +1,5 @@
 pub mod Numbers
 pub mod Spelled
 pub mod Meant
+pub mod Short
 pub mod Pushed

@@ -71,9 +71,13 @@ Parsed line r = Cases r ((c : Command) → InFields c → line ≡ written c →
 abbrev pub Exact : List ℕ → Option Command → Type 0
 Exact line r = (c : Command) → InFields c → line ≡ written c → r ≡ Some c
 
--- no command is longer than a line may be
-abbrev pub Fits-a-line : Type 0
-Fits-a-line = (c : Command) → InFields c → length (written c) ≤ 80
+-- how many bytes a line has at most
+abbrev pub longest : ℕ
+longest = 80
+
+-- a line that is read as a command is no longer than a line may be
+abbrev pub Within : List ℕ → Option Command → Type 0
+Within line r = Cases r (Unit {0}) (λ c. length line ≤ longest)
 
 -- What follows speaks of the parts of a line, between letter and end.
 

@@ -4,7 +4,7 @@ ghost use Prim.Native.Nat.{ℕ, _^_, _<_, _≤_};
 ghost use lib.ListN.{length, getD, take, drop};
 ghost use Rattle.std.specs.Options.{Cases};
 ghost use Rattle.std.specs.Written.{decimal};
-ghost use Rattle.lines.specs.Grammar.{spelled, Only, AllWide, AllShort, Means, Parsed, Exact};
+ghost use Rattle.lines.specs.Grammar.{spelled, Only, AllWide, AllShort, Means, Parsed, Exact, Within};
 use crate::command::Command;
 
 // The number that the whole of `text` writes: digits alone, with no zero in front.
@@ -203,6 +203,7 @@ fn meant(letter: u8, numbers: &[u64]) -> Option<Command>
 pub fn parse_line(line: &[u8]) -> Option<Command>
     ensures reads { λ r. ⌜ Parsed (now (line .entry)) r ⌝ }
     ensures exact { λ r. ⌜ Exact (now (line .entry)) r ⌝ }
+    ensures within { λ r. ⌜ Within (now (line .entry)) r ⌝ }
 {
     if line.len() == 0 {
         return None;
