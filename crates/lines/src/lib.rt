@@ -5,3 +5,5 @@ pub mod page;
 pub mod parse;
 pub mod reply;
 pub mod say;
+#[cfg(test)]
+mod tests;

@@ -85,7 +85,8 @@ fn put_words(page: &mut [u8], reply: Reply) -> usize
 
 // Writes a reply and its line feed to the front of the page, and answers the count of bytes.
 pub fn put_reply(page: &mut [u8; ROOM], reply: Reply) -> usize
-    ensures { λ r. ⌜ Put (now (page .entry)) (spokenLine reply) (now (page .exit)) r ⌝ }
+    ensures put { λ r. ⌜ Put (now (page .entry)) (spokenLine reply) (now (page .exit)) r ⌝ }
+    ensures within { λ r. ⌜ r ≤ 64 ⌝ }
 {
     let end = put_words(page, reply);
     put_byte(page, end, b'\n')
