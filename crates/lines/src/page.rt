@@ -10,6 +10,8 @@ use crate::reply::Reply;
 // Room for every line that is answered.
 pub const ROOM: usize = 64;
 
+// Each of these writes at a place of the page, and answers the place after what it wrote.
+
 fn put_byte(page: &mut [u8], at: usize, b: u8) -> usize
     requires { ⌜ at < length (now page) ⌝ }
     ensures after { λ _. ⌜ now (page .exit) ≡ over at (b ∷ []) (now (page .entry)) ⌝ }

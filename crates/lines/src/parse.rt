@@ -1,11 +1,17 @@
+// Lines as commands.
 ghost use mathlib.Core.Path.{_≡_};
-ghost use mathlib.Core.List.{List, []};
+ghost use mathlib.Core.List.{List};
 ghost use Prim.Native.Nat.{ℕ, _^_, _<_, _≤_};
-ghost use lib.ListN.{length, getD, take, drop};
+ghost use lib.ListN.{length, getD, take};
 ghost use Rattle.std.specs.Options.{Cases};
 ghost use Rattle.std.specs.Written.{decimal};
 ghost use Rattle.lines.specs.Grammar.{spelled, Only, AllWide, AllShort, Means, Parsed, Exact, Within};
 use crate::command::Command;
+
+// The largest numbers of 16 and of 32 bits.
+const LARGEST_SHORT: u64 = 65535;
+
+const LARGEST_AMOUNT: u64 = 4294967295;
 
 // The number that the whole of `text` writes: digits alone, with no zero in front.
 fn number(text: &[u8]) -> Option<u64>
@@ -84,7 +90,7 @@ fn shorts<const N: usize>(numbers: &[u64]) -> Option<[u16; N]>
     }
     let mut out = [0u16; N];
     for (i, n) in numbers.iter().enumerate() {
-        if *n > 65535 {
+        if *n > LARGEST_SHORT {
             return None;
         }
         out[i] = *n as u16;
@@ -112,7 +118,7 @@ fn offer(numbers: &[u64]) -> Option<Command>
     }
     let (front, back) = numbers.split_at(8);
     let amount = back[0];
-    if amount > 4294967295 {
+    if amount > LARGEST_AMOUNT {
         return None;
     }
     let [number, seller, buyer, submarket, class, source, first, last] = shorts::<8>(front)?;
@@ -146,7 +152,7 @@ fn finish(numbers: &[u64]) -> Option<Command>
 fn tell(numbers: &[u64]) -> Option<Command>
     ensures { λ r. ⌜ Means 83 (now (numbers .entry)) r ⌝ }
 {
-    if numbers.len() != 2 || numbers[0] > 65535 {
+    if numbers.len() != 2 || numbers[0] > LARGEST_SHORT {
         return None;
     }
     Some(Command::Tell {
@@ -183,6 +189,7 @@ fn certificate(numbers: &[u64]) -> Option<Command>
     Some(Command::Certificate { agent })
 }
 
+// The command of a letter and the numbers after it.
 fn meant(letter: u8, numbers: &[u64]) -> Option<Command>
     ensures { λ r. ⌜ Means letter (now (numbers .entry)) r ⌝ }
 {

@@ -5,6 +5,7 @@ ghost use lib.ListN.{length};
 ghost use Rattle.std.specs.Options.{Cases};
 ghost use Rattle.lines.specs.Grammar.{longest, Parsed, Exact};
 ghost use Rattle.lines.specs.Held.{Holds, started};
+use super::LONGEST;
 use super::LineHold;
 use crate::command::Command;
 use crate::parse::parse_line;
@@ -15,7 +16,7 @@ impl LineHold {
         ensures { λ r. ⌜ Holds r [] ⌝ }
     {
         LineHold {
-            held: [0; 80],
+            held: [0; LONGEST],
             len: 0,
             long: false,
         }
@@ -28,7 +29,7 @@ impl LineHold {
         if self.long {
             return;
         }
-        if self.len == 80 {
+        if self.len == LONGEST {
             self.long = true;
             return;
         }
