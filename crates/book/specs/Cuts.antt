@@ -51,4 +51,4 @@ cutShares rule short seller cs class = sharesOf rule (classCut short (classTotal
 -- what the cut leaves of the contract at index i, where its seller's shortfall is `short`
 abbrev pub effectiveAt : Rule → ℕ → List Claim → ℕ → ℕ
 effectiveAt rule short cs i =
-  getD cs i noClaim .amount - getD (cutShares rule short (getD cs i noClaim .seller) cs (getD cs i noClaim .class)) i 0
+    getD cs i noClaim .amount - getD (cutShares rule short (getD cs i noClaim .seller) cs (getD cs i noClaim .class)) i 0

@@ -1,8 +1,11 @@
 // The book of one month: contracts at their places, and what a sound book is.
+pub mod classes;
 pub mod contract;
-mod limit;
+pub mod limit;
 pub mod lookup;
 pub mod sizes;
 pub mod sound;
 pub mod states;
 pub mod terms;
+#[cfg(test)]
+mod tests;

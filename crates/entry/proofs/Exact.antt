@@ -16,7 +16,7 @@ use Rattle.entry.proofs.Wrap.{word-sum, of-sum, word-exact, of-exact}
 
 -- a map that keeps nothing and joins keeps totals
 pub up-maps : {V W : Type 0} (j : Joins V) (k : Joins W) (h : V → W) → h (j .nothing) ≡ k .nothing → ((x y : V) → h (j .join x y) ≡ k .join (h x) (h y))
-  → (n : ℕ) (f : ℕ → V) → upTo k n (λ i. h (f i)) ≡ h (upTo j n f)
+    → (n : ℕ) (f : ℕ → V) → upTo k n (λ i. h (f i)) ≡ h (upTo j n f)
 up-maps j k h none both zero f = sym none
 up-maps j k h none both (suc n) f = ap (λ x. k .join x (h (f n))) (up-maps j k h none both n f) ∙ sym (both (upTo j n f) (f n))
 
@@ -53,11 +53,11 @@ pub net-exact : (e : Net) (z : ℤ) → SFits w64 (e .units) → SFits w64 z →
 net-exact e z f g is = of-exact (e .units) z f g is
 
 pub by-source-exact : (e : BySource) (a b : ℤ) → SFits w64 (e .conventional) → SFits w64 (e .incentivised) → SFits w64 a → SFits w64 b
-  → bySourceValue e ≡ (wordOf a, wordOf b) → (e .conventional ≡ a) × (e .incentivised ≡ b)
+    → bySourceValue e ≡ (wordOf a, wordOf b) → (e .conventional ≡ a) × (e .incentivised ≡ b)
 by-source-exact e a b f f′ g g′ is =
     (of-exact (e .conventional) a f g (ap (λ (w : Words). w .0) is), of-exact (e .incentivised) b f′ g′ (ap (λ (w : Words). w .1) is))
 
 pub turnover-exact : (e : Turnover) (m n : ℕ) → e .sold < 2 ^ 64 → e .bought < 2 ^ 64 → m < 2 ^ 64 → n < 2 ^ 64
-  → turnoverValue e ≡ (word m, word n) → (e .sold ≡ m) × (e .bought ≡ n)
+    → turnoverValue e ≡ (word m, word n) → (e .sold ≡ m) × (e .bought ≡ n)
 turnover-exact e m n f f′ g g′ is =
     (word-exact (e .sold) m f g (ap (λ (w : Words). w .0) is), word-exact (e .bought) n f′ g′ (ap (λ (w : Words). w .1) is))

@@ -23,7 +23,7 @@ module _ {E : Type 0} (j : joining.Ghosts E) (es : List E) (first step : ℕ) wh
 
   -- an entry of the slice
   pub step-in : (n at : ℕ) (sum x next : E) → length es < 2 ^ 64 → at ≡ min (first + n * step) (2 ^ 64 - 1) → at < length es
-    → x ≡ getD es at x → j .value sum ≡ so-far n → j .value next ≡ j .joined (j .value sum) (j .value x) → j .value next ≡ so-far (n + 1)
+      → x ≡ getD es at x → j .value sum ≡ so-far n → j .value next ≡ j .joined (j .value sum) (j .value x) → j .value next ≡ so-far (n + 1)
   step-in n at sum x next fits is lt read before joined =
       let here : at ≡ first + n * step = omega arith in
       joined
@@ -33,7 +33,7 @@ module _ {E : Type 0} (j : joining.Ghosts E) (es : List E) (first step : ℕ) wh
 
   -- none
   pub step-past : ((x : j .Value) → j .joined x (j .nothing) ≡ x) → (n at : ℕ) (sum : E) → length es < 2 ^ 64 → at ≡ min (first + n * step) (2 ^ 64 - 1)
-    → length es ≤ at → j .value sum ≡ so-far n → j .value sum ≡ so-far (n + 1)
+      → length es ≤ at → j .value sum ≡ so-far n → j .value sum ≡ so-far (n + 1)
   step-past unit n at sum fits is le before =
       let past : length (values j es) ≤ first + n * step = rw length-map (omega arith) in
       before ∙ sym (unit (so-far n)) ∙ ap (j .joined (so-far n)) (sym (getD-past (values j es) (first + n * step) (j .nothing) past)) ∙ sym (up-more (joinsIn j) n run)

@@ -41,14 +41,16 @@ module _ {V : Type 0} (k : Joins V) (laws : Laws k) where
   pub up-only : (n x : ℕ) (v : V) → x < n → upTo k n (λ i. cond (eqb i x) v (k .nothing)) ≡ v
   up-only zero x v p = absurd (omega arith)
   up-only (suc n) x v p = elim (cases-eq n x) [
-      inl e ↦ ap (λ y. k .join y (cond (eqb n x) v (k .nothing))) (up-none n (λ i. cond (eqb i x) v (k .nothing)) (λ i q. cond-false (eqb i x) v (k .nothing) (ne-eqb i x (λ e′. let bad : ⊥ = omega arith in bad))))
+    | inl e ↦ ap (λ y. k .join y (cond (eqb n x) v (k .nothing))) (up-none n (λ i. cond (eqb i x) v (k .nothing)) (λ i q. cond-false (eqb i x) v (k .nothing) (ne-eqb i x (λ e′. let bad : ⊥ = omega arith in bad))))
         ∙ ap (k .join (k .nothing)) (cond-true (eqb n x) v (k .nothing) (eq-eqb n x e)) ∙ unit-left v
     | inr ne ↦ ap (λ y. k .join y (cond (eqb n x) v (k .nothing))) (up-only n x v (omega arith))
-        ∙ ap (k .join v) (cond-false (eqb n x) v (k .nothing) (ne-eqb n x ne)) ∙ laws .unit v ]
+        ∙ ap (k .join v) (cond-false (eqb n x) v (k .nothing) (ne-eqb n x ne)) ∙ laws .unit v
+  ]
 
   -- places past the last put nothing
   pub up-longer : (m n : ℕ) (f : ℕ → V) → n ≤ m → ((i : ℕ) → n ≤ i → f i ≡ k .nothing) → upTo k m f ≡ upTo k n f
   up-longer zero n f le e = ap (λ x. upTo k x f) (let z : zero ≡ n = omega arith in z)
   up-longer (suc m) n f le e = elim (cases-eq (suc m) n) [
-      inl q ↦ ap (λ x. upTo k x f) q
-    | inr ne ↦ ap (k .join (upTo k m f)) (e m (omega arith)) ∙ laws .unit (upTo k m f) ∙ up-longer m n f (omega arith) e ]
+    | inl q ↦ ap (λ x. upTo k x f) q
+    | inr ne ↦ ap (k .join (upTo k m f)) (e m (omega arith)) ∙ laws .unit (upTo k m f) ∙ up-longer m n f (omega arith) e
+  ]

@@ -27,9 +27,11 @@ joinsIn j = record { nothing = j .nothing; join = j .joined }
 
 abbrev pub meaning : {E : Type 0} (j : joining.Ghosts E) → reversible.Ghosts E → Kind (j .Value)
 meaning j r = record {
-  nothing = j .nothing; join = j .joined;
+  nothing = j .nothing;
+  join = j .joined;
   sold = λ q s. j .value (r .of q s);
-  bought = λ q s. j .value (r .opposed (r .of q s)) }
+  bought = λ q s. j .value (r .opposed (r .of q s));
+}
 
 abbrev pub values : {E : Type 0} (j : joining.Ghosts E) → List E → List (j .Value)
 values j es = map (j .value) es

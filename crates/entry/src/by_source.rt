@@ -16,7 +16,10 @@ pub impl Joining for BySource as BySourceJoining {
     ghost joined = { plusBoth };
 
     fn empty() -> BySource {
-        BySource { conventional: 0, incentivised: 0 }
+        BySource {
+            conventional: 0,
+            incentivised: 0,
+        }
     }
 
     fn join(self, other: BySource) -> BySource {
@@ -33,9 +36,13 @@ pub impl Reversible for BySource as BySourceReversible {
     ghost opposed = { bySourceOpposed };
 
     fn of_quantity(quantity: u32, source: Source) -> BySource {
-        match source {
-            Source::Conventional => BySource { conventional: quantity as i64, incentivised: 0 },
-            Source::Incentivised => BySource { conventional: 0, incentivised: quantity as i64 },
+        let (conventional, incentivised) = match source {
+            Source::Conventional => (quantity as i64, 0),
+            Source::Incentivised => (0, quantity as i64),
+        };
+        BySource {
+            conventional,
+            incentivised,
         }
     }
 

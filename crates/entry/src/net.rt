@@ -20,7 +20,9 @@ pub impl Joining for Net as NetJoining {
     }
 
     fn join(self, other: Net) -> Net {
-        Net { units: self.units.wrapping_add(other.units) }
+        Net {
+            units: self.units.wrapping_add(other.units),
+        }
     }
 }
 
@@ -30,10 +32,14 @@ pub impl Reversible for Net as NetReversible {
     ghost opposed = { netOpposed };
 
     fn of_quantity(quantity: u32, _source: Source) -> Net {
-        Net { units: quantity as i64 }
+        Net {
+            units: quantity as i64,
+        }
     }
 
     fn opposite(self) -> Net {
-        Net { units: self.units.wrapping_neg() }
+        Net {
+            units: self.units.wrapping_neg(),
+        }
     }
 }

@@ -27,6 +27,10 @@ pub data Lived {V : Type 0} (k : Kind V) : List Event → State V → Type 0 whe
   told : {past : List Event} {s t : State V} (agent kwh : ℕ) (answer : Option Refusal) →
       Lived k past s → Telling k agent kwh answer s t → Lived k (event (telling agent kwh) answer ∷ past) t
 
+-- a life begins with an opening, and balances
+abbrev pub Begins : {V : Type 0} → Kind V → State V → Type 0
+Begins k s = Lived k [] s × Balanced k [] s
+
 -- a call leads every life of the month on, to one that balances
 abbrev pub LeadsOn : {V : Type 0} → Kind V → Call → Option Refusal → State V → State V → Type 0
 LeadsOn k call answer s t = (past : List Event) → Lived k past s → Lived k (event call answer ∷ past) t × Balanced k (event call answer ∷ past) t

@@ -70,8 +70,8 @@ pub next : {page0 bs page page′ : List ℕ} {at at′ : ℕ} (cs : List ℕ) �
 next {page0} {bs} {page} {page′} {at} {at′} cs h room e l = record {
   place = l ∙ ap (λ (n : ℕ). n + length cs) (h .place) ∙ sym (length-append bs cs);
   whole =
-    let p : at ≡ 0 + length bs = omega (arith, h .place) in
-    e ∙ rw (p, h .whole) (over-then 0 bs cs page0 (omega arith));
+      let p : at ≡ 0 + length bs = omega (arith, h .place) in
+      e ∙ rw (p, h .whole) (over-then 0 bs cs page0 (omega arith));
 }
 
 pub final : {page0 bs page : List ℕ} {at : ℕ} (line : List ℕ) → Sofar page0 bs page at → bs ≡ line → (at ≡ length line) × (page ≡ line ++ drop at page0)

@@ -1,1 +1,3 @@
+pub mod Months
 pub mod Page
+pub mod Questions

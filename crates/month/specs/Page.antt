@@ -1,4 +1,5 @@
 -- The certificate line, and bytes written over a page.
+use mathlib.Core.Path.{_≡_}
 use mathlib.Core.List.{List, [], _∷_, _++_}
 use Prim.Native.Nat.{ℕ, _+_}
 use lib.Chars.{codes}
@@ -12,3 +13,8 @@ certificateLine agent sold bought = codes "agent " ++ (decimal agent ++ (codes "
 -- a page with bytes written over it, from an index on
 abbrev pub over : ℕ → List ℕ → List ℕ → List ℕ
 over at bytes page = take at page ++ (bytes ++ drop (at + length bytes) page)
+
+-- a line stands at the front of a page, whose rest stays, and n is its length
+pub record Fronted (line before after : List ℕ) (n : ℕ) : Type 0 where
+  pub count : n ≡ length line
+  pub page : after ≡ line ++ drop n before

@@ -3,7 +3,12 @@ ghost use Prim.Native.Nat.{_≤_};
 use book::sizes::Sizes;
 use std::marker::PhantomData;
 
+pub mod certifying;
 pub mod closing;
+mod admission;
+pub mod opening;
+pub mod offering;
+pub mod questions;
 
 // An open month takes offers, confirmations, endings and shortfalls.
 pub struct Open {}

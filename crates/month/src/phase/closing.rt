@@ -11,14 +11,26 @@ impl Month<Open> {
         ensures sizes { λ r. ⌜ r .sizes ≡ self .sizes ⌝ }
         ensures taken { λ r. ⌜ r .taken ≡ self .taken ⌝ }
     {
-        let Month { sizes, taken, phase: _ } = self;
-        Month { sizes, taken, phase: PhantomData }
+        let Month {
+            sizes,
+            taken,
+            phase: _,
+        } = self;
+        Month {
+            sizes,
+            taken,
+            phase: PhantomData,
+        }
     }
 }
 
 impl<P> Month<P> {
     // Puts the month away for good.
     pub fn discard(self) {
-        let Month { sizes: _, taken: _, phase: _ } = self;
+        let Month {
+            sizes: _,
+            taken: _,
+            phase: _,
+        } = self;
     }
 }

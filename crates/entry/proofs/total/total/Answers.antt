@@ -19,9 +19,16 @@ loop-turn-again g c =
     let fits : length es < 2 ^ 64 = search needs in
     let next = c .saturating-add-at .ensures ∙ at-more (c .args .first) n (c .args .step) (c .loop-turn .at) (inv .1) in
     elim (c .if-at-entries .came) [
-        then-at-entries w ↦ (ap (j .value) (w .sum-is)
-          ∙ step-in j es (c .args .first) (c .args .step) n (c .loop-turn .at) (c .loop-turn .sum) (w .index-entries-at .result) (w .join-sum .result)
-              fits (inv .1) (w .if-at-entries .taken) (w .index-entries-at .is) (inv .0) (w .join-sum .ensures), next)
-      | else-at-entries w ↦ (ap (j .value) (w .sum-is)
-          ∙ step-past j es (c .args .first) (c .args .step) (g .J·Joining·met .unit) n (c .loop-turn .at) (c .loop-turn .sum)
-              fits (inv .1) (w .if-at-entries .left) (inv .0), next) ]
+      | then-at-entries w ↦ (
+        ap (j .value) (w .sum-is)
+            ∙ step-in j es (c .args .first) (c .args .step) n (c .loop-turn .at) (c .loop-turn .sum) (w .index-entries-at .result) (w .join-sum .result)
+            fits (inv .1) (w .if-at-entries .taken) (w .index-entries-at .is) (inv .0) (w .join-sum .ensures),
+        next,
+      )
+      | else-at-entries w ↦ (
+        ap (j .value) (w .sum-is)
+            ∙ step-past j es (c .args .first) (c .args .step) (g .J·Joining·met .unit) n (c .loop-turn .at) (c .loop-turn .sum)
+            fits (inv .1) (w .if-at-entries .left) (inv .0),
+        next,
+      )
+    ]

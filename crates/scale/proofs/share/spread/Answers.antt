@@ -52,7 +52,7 @@ loop-i-again g c =
     let lt : i < length ws = omega arith in
     let next = total-next ws i lt in (
       omega arith,
-      c .given-upto .ensures,
+      omega (arith, c .given-upto .ensures),
       shared-step run ws (c .loop-i .out) _ i (c .loop-i .weight) (c .weight-weight .result) (c .given-upto .result - c .loop-i .before) (omega arith) (omega arith) w y (c .loop-i .inv .2),
     )
 

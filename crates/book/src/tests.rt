@@ -1,0 +1,83 @@
+use crate::contract::Class;
+use crate::contract::Contract;
+use crate::contract::Offer;
+use crate::contract::State;
+use crate::lookup::find;
+use crate::sizes::Sizes;
+use crate::sound::examine;
+use scale::fault::Fault;
+use scale::fault::FaultDebug;
+use scale::fault::FaultPartialEq;
+use scale::fault::Reason;
+use std::test::*;
+
+const OFFER: Offer = Offer {
+    number: 7,
+    seller: 1,
+    buyer: 2,
+    submarket: 1,
+    class: 1,
+    source: 0,
+    first: 1,
+    last: 2,
+    amount: 10,
+};
+
+// What is told of an answer: the reason's number and the spot, or zeros.
+fn told<T: Drop>(answer: Result<T, Fault>) -> (u16, usize) {
+    match answer {
+        Ok(_) => (0, 0),
+        Err(fault) => (fault.reason.number(), fault.spot),
+    }
+}
+
+fn told_of_amount(amount: u32) -> Result<(u16, usize), Fault> {
+    let offer = Offer { amount, ..OFFER };
+    Ok(told(offer.check(&Sizes::new(2, 2, 2)?)))
+}
+
+#[test]
+fn sizes_at_their_limits() -> Result<(), Fail> {
+    check_eq(told(Sizes::new(2, 744, 1)), (0, 0))?;
+    check_eq(told(Sizes::new(64, 1, 256)), (0, 0))?;
+    check_eq(told(Sizes::new(65, 745, 1)), (3, 1))?;
+    check_eq(told(Sizes::new(2, 745, 1)), (3, 2))
+}
+
+#[test]
+fn offers_at_their_limits() -> Result<(), Fail> {
+    check_eq(told_of_amount(1)?, (0, 0))?;
+    check_eq(told_of_amount(1_000_000_000)?, (0, 0))?;
+    check_eq(told_of_amount(0)?, (4, 9))?;
+    check_eq(told_of_amount(1_000_000_001)?, (4, 9))?;
+    let reversed = Offer {
+        first: 2,
+        last: 1,
+        ..OFFER
+    };
+    check_eq(told(reversed.check(&Sizes::new(2, 2, 2)?)), (4, 8))
+}
+
+#[test]
+fn unsound_books() -> Result<(), Fail> {
+    let sizes = Sizes::new(2, 2, 2)?;
+    let offered = Contract::offered(OFFER.terms(&sizes)?);
+    let confirmed = Contract {
+        state: State::InForce,
+        ..offered
+    };
+    let taken = [offered, confirmed];
+    check_eq(
+        told(examine(&sizes, &taken, &[9, 9, 4, 6], &[0, 2_000_000_000])),
+        (0, 0),
+    )?;
+    check_eq(
+        told(examine(&sizes, &taken, &[9, 9, 4, 5], &[0, 2_000_000_001])),
+        (2, 0),
+    )?;
+    check_eq(
+        told(examine(&sizes, &taken, &[9, 9, 4, 5], &[0, 0])),
+        (2, 2),
+    )?;
+    check_eq(find(&taken, 7), Some(1))
+}

@@ -1,0 +1,6 @@
+pub mod Numbers
+pub mod Spelled
+pub mod Meant
+pub mod Short
+pub mod Pushed
+pub mod Over
