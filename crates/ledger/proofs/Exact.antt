@@ -2,10 +2,9 @@
 use mathlib.Core.Path.{_≡_, refl, sym, ap, subst, _∙_}
 use mathlib.Core.Bool.{Bool, true, false, cond, _&&_}
 use mathlib.Core.List.{List}
-use mathlib.Core.Logic.{_≢_, _⊎_, inl, inr}
-use Prim.Native.Nat.{ℕ, zero, suc, _+_, _-_, _*_, _<_, _≤_}
+use mathlib.Core.Logic.{inl, inr}
+use Prim.Native.Nat.{ℕ, zero, suc, _+_, _*_, _<_, _≤_}
 use native.Mathlib.Omega.{arith}
-use native.Mathlib.Nat.{le-trans, mul-le-mul-right}
 use lib.Dec.{eqb}
 use lib.IntN.{ℤ, pos, negℤ, _+ℤ_, _-ℤ_, +ℤ-idl, +ℤ-idr}
 use lib.ListN.{length, getD}
@@ -19,17 +18,16 @@ use Rattle.std.proofs.shelf.Tests.{cases-lt, cond-both, eqb-true, and-parts}
 use Rattle.scale.specs.Weights.{weightAt}
 use Rattle.entry.specs.Kinds.{Kind, Laws, joins, upTo}
 use Rattle.entry.specs.Meanings.{netKind, bySourceKind}
-use Rattle.entry.specs.Words.{Word, word, wordOf, Words, noWords, wordJoins, bothJoins, naturals, integers}
+use Rattle.entry.specs.Words.{Word, word, wordOf, noWords, wordJoins, bothJoins, naturals, integers}
 use Rattle.entry.proofs.Exact.{up-words, up-both, up-pos, up-neg, up-at-most, integer-laws, net-exact, by-source-exact}
 use Rattle.entry.proofs.Totals.{up-same, up-join}
 use Rattle.entry.proofs.Wrap.{word-laws, both-laws}
 use Rattle.ledger.specs.States.{State}
 use Rattle.ledger.specs.Boards.{positionOf}
-use Rattle.ledger.specs.Past.{Event, Ledger, ledger, lineAt, stands, effectiveIn, quantitiesIn, sourceOf, positionIn}
-use Rattle.ledger.specs.Balance.{sumTo, Balanced}
+use Rattle.ledger.specs.Past.{Event, Ledger, ledger, lineAt, stands, quantitiesIn, sourceOf}
+use Rattle.ledger.specs.Balance.{sumTo}
 use Rattle.ledger.specs.Differences.{counts, salesIn, purchasesIn, differenceIn, NetIsTrue, BySourceIsTrue}
 use Rattle.ledger.specs.Lives.{Lived}
-use Rattle.ledger.proofs.Kept.{Kept}
 use Rattle.ledger.proofs.Law.{kept-in-life, lives-balance}
 
 -- the quantity of a contract with its sign: sold, bought or neither
