@@ -1,21 +1,20 @@
 -- What an accepted call has passed.
-use mathlib.Core.Path.{_≡_, refl, sym, ap, subst, _∙_}
-use mathlib.Core.Bool.{Bool, true, false}
-use mathlib.Core.List.{List, [], _∷_}
+use mathlib.Core.Path.{_≡_, refl, sym, subst}
+use mathlib.Core.Bool.{true, false}
+use mathlib.Core.List.{List, []}
 use mathlib.Core.Logic.{_≢_}
 use Prim.Native.Nat.{ℕ, _+_, _-_, _*_, _<_, _≤_}
 use native.Mathlib.Omega.{arith}
 use lib.Dec.{eqb, leb, ltb}
-use lib.ListN.{length, getD}
+use lib.ListN.{length}
 use Rattle.std.specs.declared.option.Option.{Option}
 use Rattle.std.specs.declared.option.Option.the-variants.{Some, None}
 use Rattle.std.specs.Options.{isSome}
 use Rattle.std.specs.shelf.Lists.{sum}
-use Rattle.std.proofs.shelf.Tests.{eqb-true, leb-true, ltb-true, and-parts, both-ways}
+use Rattle.std.proofs.shelf.Tests.{eqb-true, leb-true, ltb-true, and-parts}
 use Rattle.scale.specs.Refusals.{Refusal, unless, firstOf}
 use Rattle.scale.specs.Totals.{totalCheck}
 use Rattle.scale.specs.Weights.{clipped}
-use Rattle.book.specs.declared.contract.Contract.{Contract}
 use Rattle.book.specs.declared.contract.Event.the-variants.{Confirmation}
 use Rattle.book.specs.declared.contract.Offer.{Offer}
 use Rattle.book.specs.declared.contract.State as state
@@ -24,7 +23,7 @@ use Rattle.book.specs.Lookup.{placeOf}
 use Rattle.book.specs.States.{isInForce, inForce, nextState, allowed}
 use Rattle.book.specs.Terms.{Acceptable, offerChecks}
 use Rattle.book.proofs.Checking.{acceptable}
-use Rattle.ledger.specs.States.{State, contracts, contractAt, blank}
+use Rattle.ledger.specs.States.{State, contracts, contractAt}
 use Rattle.ledger.specs.Checks.{lengthsOf, admitted, atNumber, free, offerRefusal, eventCheck, scaleCheck, confirmRefusal, tellRefusal}
 use Rattle.ledger.proofs.Numbers.{some≢none, first-none, unless-none, place-none}
 

@@ -1,9 +1,8 @@
 -- The checks of each call, in their order: the first that fails refuses the call.
-use mathlib.Core.Bool.{Bool, true, false, cond}
 use mathlib.Core.List.{List, [], _∷_}
 use Prim.Native.Nat.{ℕ, _+_, _-_, _*_}
 use lib.Dec.{eqb, leb, ltb}
-use lib.ListN.{length, getD, replicate}
+use lib.ListN.{length}
 use Rattle.std.specs.declared.option.Option.{Option}
 use Rattle.std.specs.declared.option.Option.the-variants.{Some, None}
 use Rattle.std.specs.Options.{isSome}
@@ -21,7 +20,7 @@ use Rattle.book.specs.Sizing.{sizeChecks}
 use Rattle.book.specs.Sound.{bookCheck, sellerTotal}
 use Rattle.book.specs.States.{nextState, allowed, inForce}
 use Rattle.book.specs.Terms.{offerChecks}
-use Rattle.ledger.specs.States.{State, contracts, contractAt, blank}
+use Rattle.ledger.specs.States.{State, contracts, contractAt}
 
 -- the lengths of the four memories, exact; the first wrong one is told
 abbrev pub lengthCheck : ℕ → ℕ → ℕ → ℕ → ℕ → ℕ → ℕ → Option Refusal
