@@ -1,3 +1,4 @@
 pub mod Finding
 pub mod Checking
 pub mod Weighing
+pub mod Passing
