@@ -1,4 +1,3 @@
-use crate::contract::Class;
 use crate::contract::Contract;
 use crate::contract::Offer;
 use crate::contract::State;
@@ -7,8 +6,6 @@ use crate::sizes::Sizes;
 use crate::sound::examine;
 use scale::fault::Fault;
 use scale::fault::FaultDebug;
-use scale::fault::FaultPartialEq;
-use scale::fault::Reason;
 use std::test::*;
 
 const OFFER: Offer = Offer {
