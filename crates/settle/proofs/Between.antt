@@ -94,19 +94,19 @@ module _ {V : Type 0} (k : Kind V) (laws : Laws (joins k)) (rule : Rule) (s t : 
         let f : ℕ → V = λ i. changes k rule (contractAt before i) (rowAt before i) (contractAt after i) (rowAt after i) l hour in
         let f′ : ℕ → V = λ i. changes k rule (contractAt s i) (rowAt s i) (contractAt t i) (rowAt t i) l hour in
         let each : (i : ℕ) → i < s .taken → f i ≡ f′ i = λ i lt.
-            changes-same k rule (contractAt before i) (contractAt s i) (contractAt after i) (contractAt t i) (rowAt before i) (rowAt s i) (rowAt after i) (rowAt t i)
-            (at (contracts s) i long-old lt) (at (contracts t) i long-new lt) (old-row i lt) (new-row i lt) l hour in
+        changes-same k rule (contractAt before i) (contractAt s i) (contractAt after i) (contractAt t i) (rowAt before i) (rowAt s i) (rowAt after i) (rowAt t i)
+        (at (contracts s) i long-old lt) (at (contracts t) i long-new lt) (old-row i lt) (new-row i lt) l hour in
         r .cells l hour p q
         ∙ ap (k .join (cell k (s .sizes .hours) (s .board) l hour)) (ap (λ (n : ℕ). upTo (joins k) n f) long-old ∙ up-same (joins k) laws (s .taken) f f′ each);
     cancels = λ i lt st.
         let a = at (contracts s) i long-old lt in
         let b = at (contracts t) i long-new lt in
         let moves : stays (contractAt before i) (contractAt after i) ≡ false =
-            ap (λ (x : Contract). stays x (contractAt after i)) a ∙ ap (stays (contractAt s i)) b ∙ st in
+        ap (λ (x : Contract). stays x (contractAt after i)) a ∙ ap (stays (contractAt s i)) b ∙ st in
         let both = r .cancels i (omega (arith, long-old)) moves in (
           cancel-row k rule (contractAt s i) (rowAt before i) (rowAt s i) (old-row i lt) (s .sizes .hours)
-          (subst (λ (x : Contract). AllCancel k rule (s .sizes .hours) x (rowAt before i)) a (both .0)),
+              (subst (λ (x : Contract). AllCancel k rule (s .sizes .hours) x (rowAt before i)) a (both .0)),
           cancel-row k rule (contractAt t i) (rowAt before i) (rowAt t i) (new-row i lt) (s .sizes .hours)
-          (subst (λ (x : Contract). AllCancel k rule (s .sizes .hours) x (rowAt before i)) b (both .1)),
+              (subst (λ (x : Contract). AllCancel k rule (s .sizes .hours) x (rowAt before i)) b (both .1)),
         );
   }

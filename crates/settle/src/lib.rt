@@ -10,6 +10,7 @@ ghost use Rattle.ledger.specs.Boards.{changes, puts, stays as unmoved, takesOff
 ghost use Rattle.ledger.specs.Calls.{rounding};
 ghost use Rattle.settle.specs.Following.{dealOf, BothCancel, Joined, Movable};
 ghost use Rattle.settle.specs.Settled.{booked, Ready};
+
 #[cfg(test)]
 mod tests;
 
