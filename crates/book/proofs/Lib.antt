@@ -2,3 +2,4 @@ pub mod Finding
 pub mod Checking
 pub mod Weighing
 pub mod Cutting
+pub mod Recutting
