@@ -1,7 +1,7 @@
 // The cut rule: what a seller's shortfall leaves of its contracts in force, class after class.
 ghost use mathlib.Core.Path.{_≡_};
 ghost use mathlib.Core.List.{map};
-ghost use Prim.Native.Nat.{ℕ, _≤_, _<_};
+ghost use Prim.Native.Nat.{ℕ, _^_, _≤_, _<_};
 ghost use lib.ListN.{length, getD, replicate};
 ghost use Rattle.std.specs.Results.{Cases};
 ghost use Rattle.scale.specs.Refusals.{refusalOf};
@@ -14,7 +14,7 @@ use crate::classes::ClassScaleScale;
 use crate::contract::Class;
 use crate::contract::Contract;
 use crate::contract::MOST_PLACES;
-use crate::contract::MOST_TOTAL;
+use crate::sound::moderate;
 use scale::fault::Fault;
 use scale::fault::Reason;
 use scale::share::share;
@@ -23,7 +23,7 @@ use scale::share::share;
 fn class_total(taken: &[Contract], seller: u16, class: Class) -> u64
     requires { ⌜ length (now taken) ≤ mostPlaces ⌝ }
     ensures total { λ r. ⌜ r ≡ classTotal seller (map claimOf (now (taken .entry))) (classNumber class) ⌝ }
-    ensures fits { λ r. ⌜ r ≤ 1099511627776 ⌝ }
+    ensures fits { λ r. ⌜ r ≤ 2 ^ 40 ⌝ }
 {
     let mut total: u64 = 0;
     for contract in taken {
@@ -32,7 +32,8 @@ fn class_total(taken: &[Contract], seller: u16, class: Class) -> u64
     total
 }
 
-// Shares a cut of a class over the seller's contracts. Where nothing is cut the shares stay 0; the class need not weigh anything then.
+// Shares a cut of a class over the seller's contracts. Where nothing is cut the shares stay 0, since the class may weigh nothing.
+// A cut above 0 is no more than the class weighs, so the sharing is never refused.
 fn share_cut(taken: &[Contract], seller: u16, class: Class, cut: u32, shares: &mut [u32])
     requires most { ⌜ cut ≤ classTotal seller (map claimOf (now taken)) (classNumber class) ⌝ }
     requires moderate { ⌜ classTotal seller (map claimOf (now taken)) (classNumber class) ≤ mostTotal ⌝ }
@@ -94,7 +95,7 @@ pub fn recut(taken: &mut [Contract], seller: u16, shortfall: u64) -> Result<(), 
     let retail = class_total(taken, seller, Class::Retail);
     let regulated = class_total(taken, seller, Class::Regulated);
     let plant = class_total(taken, seller, Class::Plant);
-    if free + retail + regulated + plant > MOST_TOTAL {
+    if !moderate(free + retail + regulated + plant) {
         return Err(Fault {
             reason: Reason::SellerOverLimit,
             spot: 0,

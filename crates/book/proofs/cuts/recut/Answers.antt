@@ -2,8 +2,9 @@ use mathlib.Core.Path.{_≡_, refl, sym, ap, _∙_}
 use mathlib.Core.List.{List, [], _∷_, map}
 use Prim.Native.Nat.{ℕ, _+_, _-_, _≤_, _<_, min}
 use native.Mathlib.Omega.{arith}
+use lib.Dec.{leb}
 use lib.ListN.{length}
-use Rattle.std.proofs.shelf.Tests.{le-leb, lt-leb}
+use Rattle.std.proofs.shelf.Tests.{le-leb, leb-true}
 use Rattle.scale.specs.Shares.{downTo}
 use Rattle.book.specs.Cuts.{Claim, claimOf, classTotal}
 use Rattle.book.specs.Limits.{mostTotal}
@@ -13,13 +14,15 @@ use Rattle.book.proofs.Cutting.{class-totals}
 use Rattle.book.proofs.Recutting.{claims-cut, cuts-in-turn, in-turn}
 use Rattle.book.proofs.cuts.recut.Needs as need
 
-pub returns-then-free-retail-gt-MOST-TOTAL : need.returns-then-free-retail-gt-MOST-TOTAL
-returns-then-free-retail-gt-MOST-TOTAL c =
+pub returns-then-not-moderate : need.returns-then-not-moderate
+returns-then-not-moderate c =
     let cs = c .args .taken .now in
     let s = c .args .seller in
-    let over : mostTotal < sellerTotal s cs = omega (arith, class-totals s cs, c .class-total-free .ensures .total, c .class-total-retail .ensures .total, c .class-total-regulated .ensures .total, c .class-total-plant .ensures .total) in
+    let all : c .class-total-free .result + c .class-total-retail .result + c .class-total-regulated .result + c .class-total-plant .result ≡ sellerTotal s cs =
+    omega (arith, class-totals s cs, c .class-total-free .ensures .total, c .class-total-retail .ensures .total, c .class-total-regulated .ensures .total, c .class-total-plant .ensures .total) in
     let few : length cs ≤ 256 = omega arith in
-    record { refused = sym (passes _ 1 1 _ (le-leb _ _ few) ∙ fails _ 15 0 [] (lt-leb _ _ over)); memory = refl }
+    let over = ap (λ (t : ℕ). leb t mostTotal) (sym all) ∙ sym (c .if-not-moderate .ensures tt) in
+    record { refused = sym (passes _ 1 1 _ (le-leb _ _ few) ∙ fails _ 15 0 [] over); memory = refl }
 
 pub cut-class-requires-2 : need.cut-class-requires-2
 cut-class-requires-2 c κs =
@@ -31,7 +34,7 @@ cut-class-requires-2 c κs =
     record {
       places = omega (arith, c .cut-class .kept .taken);
       most = omega (arith, c .min-cut-retail .ensures);
-      moderate = omega (arith, c .if-free-retail-gt-MOST-TOTAL .left);
+      moderate = omega (arith, leb-true _ _ (sym (c .if-not-moderate .ensures tt)));
     }
 
 pub cut-class-requires-3 : need.cut-class-requires-3
@@ -45,7 +48,7 @@ cut-class-requires-3 c κs =
     record {
       places = omega (arith, c .cut-class .kept .taken, c .cut-class-2 .kept .taken);
       most = omega (arith, c .min-cut-regulated .ensures);
-      moderate = omega (arith, c .if-free-retail-gt-MOST-TOTAL .left);
+      moderate = omega (arith, leb-true _ _ (sym (c .if-not-moderate .ensures tt)));
     }
 
 pub cut-class-requires-4 : need.cut-class-requires-4
@@ -60,7 +63,7 @@ cut-class-requires-4 c κs =
     record {
       places = omega (arith, c .cut-class .kept .taken, c .cut-class-2 .kept .taken, c .cut-class-3 .kept .taken);
       most = omega arith;
-      moderate = omega (arith, c .if-free-retail-gt-MOST-TOTAL .left);
+      moderate = omega (arith, leb-true _ _ (sym (c .if-not-moderate .ensures tt)));
     }
 
 pub returns : need.returns
@@ -72,7 +75,7 @@ returns c =
     let t3 = c .class-total-regulated .ensures .total in
     let t4 = c .class-total-plant .ensures .total in
     let few : length cs ≤ 256 = omega arith in
-    let under : sellerTotal s cs ≤ mostTotal = omega (arith, class-totals s cs, c .if-free-retail-gt-MOST-TOTAL .left) in
+    let under : sellerTotal s cs ≤ mostTotal = omega (arith, class-totals s cs, leb-true _ _ (sym (c .if-not-moderate .ensures tt))) in
     let cuts = cuts-in-turn (c .args .shortfall) (classTotal s (map claimOf cs)) _ _ _ _ _ _ t1 t2 t3 (c .min-cut-free .ensures) (c .min-cut-retail .ensures) (c .min-cut-regulated .ensures) in
     record {
       refused = sym (passes _ 1 1 _ (le-leb _ _ few) ∙ passes _ 15 0 [] (le-leb _ _ under));
