@@ -3,3 +3,4 @@ pub mod Checking
 pub mod Weighing
 pub mod Passing
 pub mod Cutting
+pub mod Recutting

@@ -13,6 +13,9 @@ pub const MOST_AMOUNT: u32 = 1_000_000_000;
 // The most that a shortfall, or the amounts in force of one seller, can come to.
 pub const MOST_TOTAL: u64 = 2_000_000_000;
 
+// The most places that a book can have.
+pub const MOST_PLACES: usize = 256;
+
 // How a contract is cut when its seller falls short. The classes are cut in this order; the last never is.
 #[derive(Clone, Copy, PartialEq, Eq)]
 pub enum Class {

@@ -1,6 +1,7 @@
 // The book of one month: contracts at their places, and what a sound book is.
 pub mod classes;
 pub mod contract;
+pub mod cuts;
 pub mod limit;
 pub mod lookup;
 pub mod sizes;

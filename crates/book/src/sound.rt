@@ -29,7 +29,7 @@ fn row_total(row: &[u32]) -> u64
 }
 
 // Whether a shortfall, or a seller's total, is within the limit.
-fn moderate(total: u64) -> bool
+pub fn moderate(total: u64) -> bool
     ensures { λ r. ⌜ r ≡ leb total mostTotal ⌝ }
 {
     total <= MOST_TOTAL
