@@ -10,7 +10,7 @@ use Rattle.book.specs.declared.sizes.Sizes.{Sizes}
 use Rattle.book.specs.States.{inForce}
 use Rattle.ledger.specs.Boards.{lane}
 use Rattle.ledger.specs.States.{State, contracts}
-use Rattle.month.specs.Page.{certificateLine}
+use Rattle.month.specs.Line.{certificateLine}
 
 -- where an agent's entry at a submarket and hour stands on the board, all from 1
 abbrev pub entryIndex : Sizes → ℕ → ℕ → ℕ → ℕ
