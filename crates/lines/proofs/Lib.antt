@@ -3,4 +3,4 @@ pub mod Spelled
 pub mod Meant
 pub mod Short
 pub mod Pushed
-pub mod Over
+pub mod Joined

@@ -1,9 +1,7 @@
 -- What each reply reads like.
-use mathlib.Core.Path.{_≡_}
 use mathlib.Core.List.{List, [], _∷_, _++_}
-use Prim.Native.Nat.{ℕ, _+_}
+use Prim.Native.Nat.{ℕ}
 use lib.Chars.{codes}
-use lib.ListN.{length, take, drop}
 use Rattle.std.specs.Written.{decimal, signed}
 use Rattle.scale.specs.Refusals.{Refusal}
 use Rattle.lines.specs.declared.reply.Reply.{Reply}
@@ -18,15 +16,6 @@ spoken (AtBySource conventional incentivised) = codes "at " ++ (signed conventio
 -- a reply as a line, with its line feed
 abbrev pub spokenLine : Reply → List ℕ
 spokenLine r = spoken r ++ (10 ∷ [])
-
--- page, with bs written over it from the place at on
-abbrev pub over : ℕ → List ℕ → List ℕ → List ℕ
-over at bs page = take at page ++ (bs ++ drop (at + length bs) page)
-
--- bs stands at the front of page, which was before; what follows stayed, and end counts the bytes
-pub record Put (before bs page : List ℕ) (end : ℕ) : Type 0 where
-  pub count : end ≡ length bs
-  pub after : page ≡ bs ++ drop end before
 
 -- the reply to a refusal
 abbrev pub refused : Refusal → Reply

@@ -1,3 +1,3 @@
 pub mod Months
-pub mod Page
+pub mod Line
 pub mod Questions

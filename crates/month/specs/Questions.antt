@@ -13,7 +13,7 @@ use Rattle.ledger.specs.Boards.{lane}
 use Rattle.ledger.specs.Lives.{Lived}
 use Rattle.ledger.specs.Past.{Event}
 use Rattle.ledger.specs.States.{State, contracts}
-use Rattle.month.specs.Page.{certificateLine}
+use Rattle.month.specs.Line.{certificateLine}
 
 -- where an agent's entry at a submarket and hour stands on the board, all from 1
 abbrev pub entryIndex : Sizes → ℕ → ℕ → ℕ → ℕ

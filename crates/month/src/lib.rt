@@ -1,5 +1,5 @@
 // One market month: open and closed months, and every call on them.
 mod lengths;
-mod page;
+mod line;
 pub mod phase;
 mod turnover;

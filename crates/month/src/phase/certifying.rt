@@ -1,15 +1,15 @@
 // Certificate lines, which only a closed month writes.
 ghost use mathlib.Core.Path.{_≡_};
 ghost use lib.ListN.{length};
+ghost use Rattle.page.specs.Page.{Fronted};
 ghost use Rattle.std.specs.Results.{Cases};
 ghost use Rattle.scale.specs.Refusals.{refusalOf};
 ghost use Rattle.ledger.specs.Checks.{certificateRefusal};
 ghost use Rattle.month.specs.Months.{stateOf};
-ghost use Rattle.month.specs.Page.{Fronted};
 ghost use Rattle.month.specs.Questions.{certified};
 use super::Closed;
 use super::Month;
-use crate::page::put_line;
+use crate::line::put_line;
 use book::contract::Contract;
 use entry::joining::Joining;
 use scale::fault::Fault;

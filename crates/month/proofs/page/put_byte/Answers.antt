@@ -1,6 +1,0 @@
-use mathlib.Core.Path.{refl}
-use Rattle.month.proofs.Over.{over-one}
-use Rattle.month.proofs.page.put_byte.Needs as need
-
-pub returns : need.returns
-returns c = record { after = over-one _ _ _ (c .pre); end = refl }
