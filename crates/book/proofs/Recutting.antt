@@ -83,10 +83,10 @@ no-shares rule sound ws zeros z =
     ∙ same-lists (replicate (length ws) 0) (sharesOf rule 0 ws)
     (length-replicate (length ws) 0 ∙ sym (length-shared (rule 0 (sum ws)) 0 ws))
     (λ k d less.
-      let inside : k < length ws = omega (arith, length-replicate {A = ℕ} (length ws) 0) in
-      let none : getD (sharesOf rule 0 ws) k 0 ≡ 0 = omega (arith, part-in-sum (sharesOf rule 0 ws) k, share-total rule sound 0 ws (omega arith)) in
-      getD-replicate (length ws) k 0 d inside ∙ sym none
-      ∙ getD-default (sharesOf rule 0 ws) k 0 d (omega (arith, length-shared (rule 0 (sum ws)) 0 ws)))
+    let inside : k < length ws = omega (arith, length-replicate {A = ℕ} (length ws) 0) in
+    let none : getD (sharesOf rule 0 ws) k 0 ≡ 0 = omega (arith, part-in-sum (sharesOf rule 0 ws) k, share-total rule sound 0 ws (omega arith)) in
+    getD-replicate (length ws) k 0 d inside ∙ sym none
+    ∙ getD-default (sharesOf rule 0 ws) k 0 d (omega (arith, length-shared (rule 0 (sum ws)) 0 ws)))
 
 pub share-amount : (rule : Rule) → Sound rule → (seller class cut : ℕ) (cs : List Contract) → cut ≤ classTotal seller (map claimOf cs) class
     → (i : ℕ) (d : Contract) → i < length cs → getD (sharesOf rule cut (classWeights seller class (map claimOf cs))) i 0 ≤ getD cs i d .terms .amount
@@ -197,10 +197,10 @@ module _ (rule : Rule) (seller short : ℕ) (cs : List Contract) where
       ∙ map-from-same (λ i x. step 4 i (step 3 i (step 2 i (step 1 i x))))
       (λ i c. cond (standsFor seller c) (withEffective (effectiveAt rule short (map claimOf cs) i) c) c) 0 cs
       (λ k i d at less.
-        let same : i ≡ k = omega arith in
-        subst (λ (n : ℕ). step 4 i (step 3 i (step 2 i (step 1 i (getD cs n d))))
-        ≡ cond (standsFor seller (getD cs n d)) (withEffective (effectiveAt rule short (map claimOf cs) i) (getD cs n d)) (getD cs n d))
-        same (place i d (omega arith)))
+      let same : i ≡ k = omega arith in
+      subst (λ (n : ℕ). step 4 i (step 3 i (step 2 i (step 1 i (getD cs n d))))
+      ≡ cond (standsFor seller (getD cs n d)) (withEffective (effectiveAt rule short (map claimOf cs) i) (getD cs n d)) (getD cs n d))
+      same (place i d (omega arith)))
 
   pub in-turn : (first second third fourth : List Contract) (k1 k2 k3 : ℕ)
       → k1 ≡ classCut short (classTotal seller (map claimOf cs)) 1

@@ -5,3 +5,4 @@ pub mod Terms
 pub mod Lookup
 pub mod Sound
 pub mod Cuts
+pub mod Figures

@@ -2,6 +2,7 @@
 pub mod classes;
 pub mod contract;
 pub mod cuts;
+pub mod figures;
 pub mod limit;
 pub mod lookup;
 pub mod sizes;

@@ -42,7 +42,7 @@ cut-class-requires-3 c κs =
     let cs = c .args .taken .now in
     let s = c .args .seller in
     let claims = claims-cut downTo s 2 (c .min-cut-retail .result) (c .cut-class .last .taken) (c .cut-class-2 .last .taken) (c .cut-class-2 .ensures)
-        ∙ claims-cut downTo s 1 (c .min-cut-free .result) cs (c .cut-class .last .taken) (c .cut-class .ensures) in
+    ∙ claims-cut downTo s 1 (c .min-cut-free .result) cs (c .cut-class .last .taken) (c .cut-class .ensures) in
     let total : classTotal s (map claimOf (c .cut-class-2 .last .taken)) 3 ≡ classTotal s (map claimOf cs) 3 = ap (λ (m : List Claim). classTotal s m 3) claims in
     let told = c .class-total-regulated .ensures .total in
     record {
@@ -56,8 +56,8 @@ cut-class-requires-4 c κs =
     let cs = c .args .taken .now in
     let s = c .args .seller in
     let claims = claims-cut downTo s 3 (c .min-cut-regulated .result) (c .cut-class-2 .last .taken) (c .cut-class-3 .last .taken) (c .cut-class-3 .ensures)
-        ∙ claims-cut downTo s 2 (c .min-cut-retail .result) (c .cut-class .last .taken) (c .cut-class-2 .last .taken) (c .cut-class-2 .ensures)
-        ∙ claims-cut downTo s 1 (c .min-cut-free .result) cs (c .cut-class .last .taken) (c .cut-class .ensures) in
+    ∙ claims-cut downTo s 2 (c .min-cut-retail .result) (c .cut-class .last .taken) (c .cut-class-2 .last .taken) (c .cut-class-2 .ensures)
+    ∙ claims-cut downTo s 1 (c .min-cut-free .result) cs (c .cut-class .last .taken) (c .cut-class .ensures) in
     let total : classTotal s (map claimOf (c .cut-class-3 .last .taken)) 4 ≡ classTotal s (map claimOf cs) 4 = ap (λ (m : List Claim). classTotal s m 4) claims in
     let told = c .class-total-plant .ensures .total in
     record {

@@ -26,7 +26,7 @@ returns-then-cut-gt0 c =
     let places : length (c .args .shares .now) ≡ length own =
     ap length (c .pre .zeros) ∙ length-replicate (length cs) 0 ∙ sym (weights-length (c .args .seller) (classNumber (c .args .class)) cs) ∙ ap length (sym same) in
     let fine = share-fine q (length (c .args .shares .now)) own (omega (arith, c .pre .most, c .pre .moderate)) places
-        (sym (check-fine own (omega (arith, c .pre .most, c .if-cut-gt0 .taken)) (omega (arith, c .pre .moderate)))) in
+    (sym (check-fine own (omega (arith, c .pre .most, c .if-cut-gt0 .taken)) (omega (arith, c .pre .moderate)))) in
     let shared : Shared downTo q own (c .share .last .out) =
     not-refused (c .share .result) (Shared downTo q own (c .share .last .out)) (c .share .last .out ≡ c .args .shares .now) (c .share .ensures .answer ∙ sym fine) (c .share .ensures .memory) in
     shared .parts ∙ ap (sharesOf downTo q) same
