@@ -24,9 +24,10 @@ use Rattle.book.specs.declared.sizes.Sizes.{Sizes}
 use Rattle.book.specs.Lookup.{placeOf}
 use Rattle.book.specs.Sound.{rowOf}
 use Rattle.book.specs.States.{inForce}
-use Rattle.book.specs.Terms.{fields}
-use Rattle.ledger.specs.States.{State, blank, contracts, contractAt, rowAt}
-use Rattle.ledger.specs.Calls.{rounding, withState, withEffective, putRow, Resettled, Enforced, Finished, Noted}
+use Rattle.book.specs.Terms.{fields, blank}
+use Rattle.ledger.specs.States.{State, contracts, contractAt, rowAt}
+use Rattle.book.specs.Cuts.{withEffective}
+use Rattle.ledger.specs.Calls.{rounding, withState, putRow, Resettled, Enforced, Finished, Noted}
 use Rattle.ledger.specs.Checks.{confirmRefusal, tellRefusal}
 use Rattle.ledger.specs.Past.{Line, Ledger, noLine, lineAt, stands, atNumber, confirmed, ended, noted, confirming, ending, telling}
 use Rattle.ledger.proofs.Kept.{Kept, Confirmed, Moves, settle}

@@ -16,11 +16,11 @@ use Rattle.book.specs.declared.contract.Contract.{Contract}
 use Rattle.book.specs.declared.contract.Offer.{Offer}
 use Rattle.book.specs.declared.contract.State as state
 use Rattle.book.specs.declared.sizes.Sizes.{Sizes}
-use Rattle.book.specs.Cuts.{Claim, noClaim, claimOf, effectiveAt}
+use Rattle.book.specs.Cuts.{Claim, noClaim, claimOf, effectiveAt, standsFor}
 use Rattle.book.specs.States.{inForce, isInForce}
-use Rattle.book.specs.Terms.{Acceptable, fields}
-use Rattle.ledger.specs.States.{State, blank, contracts, contractAt, rowAt, shortfallOf}
-use Rattle.ledger.specs.Calls.{rounding, standsFor, Resettled}
+use Rattle.book.specs.Terms.{Acceptable, fields, blank}
+use Rattle.ledger.specs.States.{State, contracts, contractAt, rowAt, shortfallOf}
+use Rattle.ledger.specs.Calls.{rounding, Resettled}
 use Rattle.ledger.specs.Past.{Line, Ledger, noLine, lineAt, stands, claimIn, effectiveIn}
 use Rattle.ledger.proofs.Board.{Posted, Fits, posted-next}
 use Rattle.ledger.proofs.Recut.{recutAt, getD-recut, recut-terms, recut-state, effective-same, weights-same}

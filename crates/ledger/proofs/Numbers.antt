@@ -14,7 +14,7 @@ use Rattle.std.proofs.shelf.Tests.{cases-bool, cond-true, cond-false, eq-eqb, e
 use Rattle.scale.specs.Refusals.{Refusal, unless, firstOf}
 use Rattle.book.specs.declared.contract.Contract.{Contract}
 use Rattle.book.specs.Lookup.{placeFrom}
-use Rattle.ledger.specs.States.{blank}
+use Rattle.book.specs.Terms.{blank}
 
 pub some≢none : {A : Type 0} (a : A) → Some a ≡ None → ⊥
 some≢none a e = both-ways true (ap isSome e) refl

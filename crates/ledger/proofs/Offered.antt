@@ -17,8 +17,8 @@ use Rattle.book.specs.declared.sizes.Sizes.{Sizes}
 use Rattle.book.specs.Cuts.{Claim, effectiveAt}
 use Rattle.book.specs.Sound.{rowOf}
 use Rattle.book.specs.States.{inForce, isInForce}
-use Rattle.book.specs.Terms.{Acceptable, fields}
-use Rattle.ledger.specs.States.{State, blank, contracts, contractAt, rowAt}
+use Rattle.book.specs.Terms.{Acceptable, fields, blank}
+use Rattle.ledger.specs.States.{State, contracts, contractAt, rowAt}
 use Rattle.ledger.specs.Boards.{cell, puts, AllCancel}
 use Rattle.ledger.specs.Calls.{rounding, Taken, Opened}
 use Rattle.ledger.specs.Checks.{offerRefusal}

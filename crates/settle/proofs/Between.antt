@@ -15,7 +15,8 @@ use Rattle.book.specs.declared.contract.Contract.{Contract}
 use Rattle.book.specs.declared.sizes.Sizes.{Sizes}
 use Rattle.book.specs.Sound.{SoundBook, SoundPlace, rowOf}
 use Rattle.book.specs.States.{inForce}
-use Rattle.ledger.specs.States.{State, blank, contracts, contractAt, rowAt}
+use Rattle.book.specs.Terms.{blank}
+use Rattle.ledger.specs.States.{State, contracts, contractAt, rowAt}
 use Rattle.ledger.specs.Boards.{cell, changes, puts, takesOff, quantityOf, stays, AllCancel, Revised}
 use Rattle.settle.specs.Settled.{booked, Placed, Ready}
 

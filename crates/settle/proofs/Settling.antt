@@ -16,7 +16,8 @@ use Rattle.board.proofs.Lanes.{room-exact, fitting-when}
 use Rattle.book.specs.declared.contract.Contract.{Contract}
 use Rattle.book.specs.declared.sizes.Sizes.{Sizes}
 use Rattle.book.specs.Sound.{rowOf}
-use Rattle.ledger.specs.States.{State, blank, contractAt, rowAt}
+use Rattle.book.specs.Terms.{blank}
+use Rattle.ledger.specs.States.{State, contractAt, rowAt}
 use Rattle.ledger.specs.Boards.{cell, changes, stays, AllCancel, Revised}
 use Rattle.ledger.specs.Calls.{rounding}
 use Rattle.settle.specs.Settled.{booked, Placed}

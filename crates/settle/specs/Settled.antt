@@ -10,8 +10,8 @@ use Rattle.book.specs.declared.contract.Contract.{Contract}
 use Rattle.book.specs.declared.sizes.Sizes.{Sizes}
 use Rattle.book.specs.Sound.{rowOf}
 use Rattle.book.specs.States.{inForce}
-use Rattle.book.specs.Terms.{Acceptable, fields}
-use Rattle.ledger.specs.States.{State, blank}
+use Rattle.book.specs.Terms.{Acceptable, fields, blank}
+use Rattle.ledger.specs.States.{State}
 
 -- a state of which only the contracts, their rows and the board count
 abbrev pub booked : {V : Type 0} → Sizes → List Contract → List ℕ → List V → State V
