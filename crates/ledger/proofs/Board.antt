@@ -17,7 +17,9 @@ use Rattle.book.specs.declared.sizes.Sizes.{Sizes}
 use Rattle.book.specs.States.{inForce}
 use Rattle.book.specs.Terms.{Acceptable, fields}
 use Rattle.ledger.specs.States.{State, contractAt, rowAt}
-use Rattle.ledger.specs.Boards.{lane, cell, positionOf, share, quantityOf, puts, stays, changes, AllCancel, Revised}
+use Rattle.board.specs.Lanes.{lane}
+use Rattle.board.specs.Moves.{cell, share}
+use Rattle.ledger.specs.Boards.{positionOf, quantityOf, puts, stays, changes, AllCancel, Revised}
 use Rattle.ledger.specs.Calls.{rounding}
 use Rattle.ledger.specs.Past.{traded}
 use Rattle.ledger.proofs.Lanes.{puts-sum, puts-next, share-traded}

@@ -16,7 +16,9 @@ use Rattle.book.specs.declared.contract.Contract.{Contract}
 use Rattle.book.specs.declared.sizes.Sizes.{Sizes}
 use Rattle.book.specs.States.{inForce}
 use Rattle.book.specs.Terms.{Acceptable, fields, sourceNumber}
-use Rattle.ledger.specs.Boards.{lane, share, sellerLane, buyerLane, quantityOf, puts, takesOff, stays, changes, AllCancel}
+use Rattle.board.specs.Lanes.{lane}
+use Rattle.board.specs.Moves.{share}
+use Rattle.ledger.specs.Boards.{sellerLane, buyerLane, quantityOf, puts, takesOff, stays, changes, AllCancel}
 use Rattle.ledger.specs.Past.{traded, sourceOf}
 
 module _ {V : Type 0} (k : Kind V) (from to : ℕ) (s : Source) (q : ℕ) where

@@ -19,7 +19,8 @@ use Rattle.book.specs.Sound.{rowOf}
 use Rattle.book.specs.States.{inForce, isInForce}
 use Rattle.book.specs.Terms.{Acceptable, fields, blank}
 use Rattle.ledger.specs.States.{State, contracts, contractAt, rowAt}
-use Rattle.ledger.specs.Boards.{cell, puts, AllCancel}
+use Rattle.board.specs.Moves.{cell}
+use Rattle.ledger.specs.Boards.{puts, AllCancel}
 use Rattle.ledger.specs.Calls.{rounding, Taken, Opened}
 use Rattle.ledger.specs.Checks.{offerRefusal}
 use Rattle.ledger.specs.Past.{Line, Ledger, ledger, noLine, lineAt, stands, claimIn, effectiveIn, entered, noted, offering}

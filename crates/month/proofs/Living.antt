@@ -17,7 +17,7 @@ use Rattle.scale.specs.Refusals.{refusalOf, unless}
 use Rattle.entry.specs.Kinds.{Kind, Laws, joins, upTo}
 use Rattle.book.specs.declared.sizes.Sizes.{Sizes}
 use Rattle.book.specs.Limits.{between}
-use Rattle.ledger.specs.Boards.{cell, positionOf}
+use Rattle.ledger.specs.Boards.{positionOf}
 use Rattle.ledger.specs.Checks.{balanceRefusal, positionRefusal}
 use Rattle.ledger.specs.Lives.{Lived}
 use Rattle.ledger.specs.Past.{Event, ledger, positionIn}

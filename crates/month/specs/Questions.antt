@@ -9,7 +9,7 @@ use Rattle.entry.specs.Kinds.{Kind}
 use Rattle.book.specs.declared.contract.Contract.{Contract}
 use Rattle.book.specs.declared.sizes.Sizes.{Sizes}
 use Rattle.book.specs.States.{inForce}
-use Rattle.ledger.specs.Boards.{lane}
+use Rattle.board.specs.Lanes.{lane}
 use Rattle.ledger.specs.Lives.{Lived}
 use Rattle.ledger.specs.Past.{Event}
 use Rattle.ledger.specs.States.{State, contracts}

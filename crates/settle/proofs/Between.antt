@@ -17,7 +17,8 @@ use Rattle.book.specs.Sound.{SoundBook, SoundPlace, rowOf}
 use Rattle.book.specs.States.{inForce}
 use Rattle.book.specs.Terms.{blank}
 use Rattle.ledger.specs.States.{State, contracts, contractAt, rowAt}
-use Rattle.ledger.specs.Boards.{cell, changes, puts, takesOff, quantityOf, stays, AllCancel, Revised}
+use Rattle.board.specs.Moves.{cell}
+use Rattle.ledger.specs.Boards.{changes, puts, takesOff, quantityOf, stays, AllCancel, Revised}
 use Rattle.settle.specs.Settled.{booked, Placed, Ready}
 
 -- a contract of a sound book is ready, and so are two sound books over the same rows

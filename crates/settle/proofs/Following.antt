@@ -12,7 +12,8 @@ use Rattle.board.specs.Lanes.{roomFor, fitting}
 use Rattle.board.specs.Moves.{Moved, Added, TakenOff}
 use Rattle.book.specs.declared.contract.Contract.{Contract}
 use Rattle.book.specs.States.{inForce}
-use Rattle.ledger.specs.Boards.{cell, share, sellerLane, buyerLane, puts, takesOff, changes, stays, AllCancel}
+use Rattle.board.specs.Moves.{cell, share}
+use Rattle.ledger.specs.Boards.{sellerLane, buyerLane, puts, takesOff, changes, stays, AllCancel}
 use Rattle.ledger.specs.Calls.{rounding}
 use Rattle.settle.specs.Following.{dealOf, Movable, Joined, BothCancel}
 

@@ -18,7 +18,8 @@ use Rattle.book.specs.declared.sizes.Sizes.{Sizes}
 use Rattle.book.specs.Sound.{rowOf}
 use Rattle.book.specs.Terms.{blank}
 use Rattle.ledger.specs.States.{State, contractAt, rowAt}
-use Rattle.ledger.specs.Boards.{cell, changes, stays, AllCancel, Revised}
+use Rattle.board.specs.Moves.{cell}
+use Rattle.ledger.specs.Boards.{changes, stays, AllCancel, Revised}
 use Rattle.ledger.specs.Calls.{rounding}
 use Rattle.settle.specs.Settled.{booked, Placed}
 use Rattle.settle.specs.Following.{dealOf, Movable, Joined, BothCancel}

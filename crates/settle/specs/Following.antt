@@ -11,7 +11,8 @@ use Rattle.board.specs.declared.deal.Deal.{Deal}
 use Rattle.board.specs.Lanes.{roomFor, fitting}
 use Rattle.book.specs.declared.contract.Contract.{Contract}
 use Rattle.book.specs.States.{inForce}
-use Rattle.ledger.specs.Boards.{cell, changes, stays, AllCancel}
+use Rattle.board.specs.Moves.{cell}
+use Rattle.ledger.specs.Boards.{changes, stays, AllCancel}
 use Rattle.ledger.specs.Calls.{rounding}
 
 -- who sells to whom under a contract, and where
