@@ -6,3 +6,4 @@ pub mod Lookup
 pub mod Sound
 pub mod Cuts
 pub mod Figures
+pub mod Supply

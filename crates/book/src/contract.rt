@@ -58,6 +58,23 @@ pub struct Contract {
     pub state: State,
 }
 
+// What stands where no contract does.
+pub const BLANK: Contract = Contract {
+    terms: Terms {
+        number: 0,
+        seller: 0,
+        buyer: 0,
+        submarket: 0,
+        class: Class::Free,
+        source: Source::Conventional,
+        first: 0,
+        last: 0,
+        amount: 0,
+    },
+    effective: 0,
+    state: State::Offered,
+};
+
 // An offer as it is called: the terms as plain numbers, of which nothing is known yet.
 #[derive(Clone, Copy)]
 pub struct Offer {

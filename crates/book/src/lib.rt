@@ -8,6 +8,7 @@ pub mod lookup;
 pub mod sizes;
 pub mod sound;
 pub mod states;
+pub mod supply;
 pub mod terms;
 #[cfg(test)]
 mod tests;

@@ -24,7 +24,8 @@ use Rattle.book.specs.States.{isInForce, inForce, nextState, allowed}
 use Rattle.book.specs.Terms.{Acceptable, offerChecks}
 use Rattle.book.proofs.Checking.{acceptable}
 use Rattle.ledger.specs.States.{State, contracts, contractAt}
-use Rattle.ledger.specs.Checks.{lengthsOf, admitted, atNumber, free, offerRefusal, eventCheck, scaleCheck, confirmRefusal, tellRefusal}
+use Rattle.book.specs.Supply.{supplyCheck}
+use Rattle.ledger.specs.Checks.{lengthsOf, admitted, atNumber, free, offerRefusal, eventCheck, confirmRefusal, tellRefusal}
 use Rattle.ledger.proofs.Numbers.{some≢none, first-none, unless-none, place-none}
 
 pub record Lengths {V : Type 0} (s : State V) : Type 0 where
@@ -85,7 +86,7 @@ module _ {V : Type 0} (s : State V) where
   not-yet Ended e = refl
 
   at-index : (index agent : ℕ) (weights : List ℕ) →
-      eventCheck s Confirmation agent (index + 1) ≡ None → scaleCheck s (contractAt s (index + 1 - 1)) weights ≡ None →
+      eventCheck s Confirmation agent (index + 1) ≡ None → supplyCheck (s .sizes .hours) (contractAt s (index + 1 - 1) .terms) weights ≡ None →
       (inForce (contractAt s index) ≡ false) × ((length weights ≡ s .sizes .hours) × (1 ≤ sum (clipped (contractAt s index .terms .first) (contractAt s index .terms .last) weights)))
   at-index index agent weights event scale =
       let e1 : index + 1 - 1 ≡ index = omega arith in
@@ -109,7 +110,7 @@ module _ {V : Type 0} (s : State V) where
       let p2 = first-none (atNumber (placeOf number (contracts s)) _) _ (p1 .1) in
       let p3 = at-found _ (placeOf number (contracts s)) (index + 1) found (p2 .0) in
       let p4 = first-none (eventCheck s Confirmation agent (index + 1)) _ p3 in
-      let p5 = first-none (scaleCheck s (contractAt s (index + 1 - 1)) weights) _ (p4 .1) in
+      let p5 = first-none (supplyCheck (s .sizes .hours) (contractAt s (index + 1 - 1) .terms) weights) _ (p4 .1) in
       let facts = at-index index agent weights (p4 .0) (p5 .0) in
       record { lengths = lengths (p1 .0); idle = facts .0; hours = facts .1 .0; weighs = facts .1 .1 }
 

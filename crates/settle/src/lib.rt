@@ -125,3 +125,21 @@ pub fn revise<E: Reversible>(
         move_place(contract, &new[i], row, quantities, board);
     }
 }
+
+// Moves the board to the contracts that come after, and puts these in the place of those before.
+pub fn follow<E: Reversible>(
+    sizes: &Sizes,
+    taken: &mut [Contract],
+    after: &[Contract],
+    rows: &[u32],
+    board: &mut [E],
+)
+    requires { ⌜ Ready (now sizes) (now taken) (now after) (now rows) (length (now board)) ⌝ }
+    ensures taken { λ _. ⌜ now (taken .exit) ≡ now (after .entry) ⌝ }
+    ensures board { λ _. ⌜ Revised (meaning E·Joining E·Reversible) rounding
+        (booked (now (sizes .entry)) (now (taken .entry)) (now (rows .entry)) (values E·Joining (now (board .entry))))
+        (booked (now (sizes .entry)) (now (after .entry)) (now (rows .entry)) (values E·Joining (now (board .exit)))) ⌝ }
+{
+    revise(sizes, taken, after, rows, board);
+    taken.copy_from_slice(after);
+}
