@@ -6,6 +6,9 @@ ghost use Rattle.std.specs.shelf.Lists.{sum};
 ghost use Rattle.scale.specs.Shares.{sharesOf};
 ghost use Rattle.scale.specs.Totals.{limit};
 ghost use Rattle.entry.specs.Kinds.{meaning, values};
+ghost use Rattle.book.specs.Cuts.{recut as recutBy};
+ghost use Rattle.book.specs.Limits.{mostPlaces, mostTotal};
+ghost use Rattle.book.specs.Sound.{sellerTotal};
 ghost use Rattle.ledger.specs.Boards.{changes, puts, stays as unmoved, takesOff, AllCancel, Revised};
 ghost use Rattle.ledger.specs.Calls.{rounding};
 ghost use Rattle.settle.specs.Following.{dealOf, BothCancel, Joined, Movable};
@@ -18,6 +21,7 @@ use board::add;
 use board::deal::Deal;
 use board::take_off;
 use book::contract::Contract;
+use book::cuts::recut;
 use book::sizes::Sizes;
 use entry::joining::Joining;
 use entry::reversible::Reversible;
@@ -142,4 +146,26 @@ pub fn follow<E: Reversible>(
 {
     revise(sizes, taken, after, rows, board);
     taken.copy_from_slice(after);
+}
+
+// Sets a seller's effective amounts in the contracts that an event leaves, and lets board and places follow them.
+pub fn resettle<E: Reversible>(
+    sizes: &Sizes,
+    taken: &mut [Contract],
+    after: &mut [Contract],
+    seller: u16,
+    shortfall: u64,
+    rows: &[u32],
+    board: &mut [E],
+)
+    requires ready { ⌜ Ready (now sizes) (now taken) (now after) (now rows) (length (now board)) ⌝ }
+    requires places { ⌜ length (now after) ≤ mostPlaces ⌝ }
+    requires moderate { ⌜ sellerTotal seller (now after) ≤ mostTotal ⌝ }
+    ensures taken { λ _. ⌜ now (taken .exit) ≡ recutBy rounding seller shortfall (now (after .entry)) ⌝ }
+    ensures board { λ _. ⌜ Revised (meaning E·Joining E·Reversible) rounding
+        (booked (now (sizes .entry)) (now (taken .entry)) (now (rows .entry)) (values E·Joining (now (board .entry))))
+        (booked (now (sizes .entry)) (now (taken .exit)) (now (rows .entry)) (values E·Joining (now (board .exit)))) ⌝ }
+{
+    let _ = recut(after, seller, shortfall);
+    follow(sizes, taken, after, rows, board);
 }
