@@ -1,7 +1,7 @@
 // The board follows the book: what contracts no longer deliver is taken off, and what they now deliver is added.
 ghost use mathlib.Core.Path.{_≡_};
-ghost use Prim.Native.Nat.{_≤_};
-ghost use lib.ListN.{length};
+ghost use Prim.Native.Nat.{_<_, _≤_};
+ghost use lib.ListN.{length, set};
 ghost use Rattle.std.specs.shelf.Lists.{sum};
 ghost use Rattle.scale.specs.Shares.{sharesOf};
 ghost use Rattle.scale.specs.Totals.{limit};
@@ -20,7 +20,9 @@ mod tests;
 use board::add;
 use board::deal::Deal;
 use board::take_off;
+use book::contract::BLANK;
 use book::contract::Contract;
+use book::contract::MOST_PLACES;
 use book::cuts::recut;
 use book::sizes::Sizes;
 use entry::joining::Joining;
@@ -168,4 +170,53 @@ pub fn resettle<E: Reversible>(
 {
     let _ = recut(after, seller, shortfall);
     follow(sizes, taken, after, rows, board);
+}
+
+// Resettles a seller after its shortfall was told: no contract changes but by the cuts.
+pub fn settle_all<E: Reversible>(
+    sizes: &Sizes,
+    taken: &mut [Contract],
+    seller: u16,
+    shortfall: u64,
+    rows: &[u32],
+    board: &mut [E],
+)
+    requires ready { ⌜ Ready (now sizes) (now taken) (now taken) (now rows) (length (now board)) ⌝ }
+    requires places { ⌜ length (now taken) ≤ mostPlaces ⌝ }
+    requires moderate { ⌜ sellerTotal seller (now taken) ≤ mostTotal ⌝ }
+    ensures taken { λ _. ⌜ now (taken .exit) ≡ recutBy rounding seller shortfall (now (taken .entry)) ⌝ }
+    ensures board { λ _. ⌜ Revised (meaning E·Joining E·Reversible) rounding
+        (booked (now (sizes .entry)) (now (taken .entry)) (now (rows .entry)) (values E·Joining (now (board .entry))))
+        (booked (now (sizes .entry)) (now (taken .exit)) (now (rows .entry)) (values E·Joining (now (board .exit)))) ⌝ }
+{
+    let mut room = [BLANK; MOST_PLACES];
+    let after = &mut room[0..taken.len()];
+    after.copy_from_slice(taken);
+    resettle(sizes, taken, after, seller, shortfall, rows, board);
+}
+
+// Resettles the seller of a contract that was confirmed or ended: it stands changed at its place.
+pub fn settle_place<E: Reversible>(
+    sizes: &Sizes,
+    taken: &mut [Contract],
+    index: usize,
+    changed: Contract,
+    shortfall: u64,
+    rows: &[u32],
+    board: &mut [E],
+)
+    requires inside { ⌜ index < length (now taken) ⌝ }
+    requires ready { ⌜ Ready (now sizes) (now taken) (set (now taken) index changed) (now rows) (length (now board)) ⌝ }
+    requires places { ⌜ length (now taken) ≤ mostPlaces ⌝ }
+    requires moderate { ⌜ sellerTotal (changed .terms .seller) (set (now taken) index changed) ≤ mostTotal ⌝ }
+    ensures taken { λ _. ⌜ now (taken .exit) ≡ recutBy rounding (changed .terms .seller) shortfall (set (now (taken .entry)) index changed) ⌝ }
+    ensures board { λ _. ⌜ Revised (meaning E·Joining E·Reversible) rounding
+        (booked (now (sizes .entry)) (now (taken .entry)) (now (rows .entry)) (values E·Joining (now (board .entry))))
+        (booked (now (sizes .entry)) (now (taken .exit)) (now (rows .entry)) (values E·Joining (now (board .exit)))) ⌝ }
+{
+    let mut room = [BLANK; MOST_PLACES];
+    let after = &mut room[0..taken.len()];
+    after.copy_from_slice(taken);
+    after[index] = changed;
+    resettle(sizes, taken, after, changed.terms.seller, shortfall, rows, board);
 }
