@@ -6,10 +6,13 @@ use std::marker::PhantomData;
 pub mod certifying;
 pub mod closing;
 mod admission;
+pub mod ending;
+mod events;
 pub mod opening;
 pub mod offering;
 pub mod positions;
 pub mod questions;
+mod settling;
 
 // An open month takes offers, confirmations, endings and shortfalls.
 pub struct Open {}
