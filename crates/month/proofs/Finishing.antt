@@ -7,7 +7,7 @@ use native.Mathlib.Nat.{mul-le-mul-right}
 use native.Mathlib.Omega.{arith}
 use lib.ListN.{length, getD, set, take}
 use Rattle.std.specs.shelf.Lists.{sum}
-use Rattle.std.proofs.shelf.Lists.{length-take-le}
+use Rattle.std.proofs.shelf.Lists.{getD-set-same, length-take-le}
 use Rattle.std.proofs.shelf.Tests.{false≢true}
 use Rattle.entry.specs.Kinds.{Kind, Laws, joins}
 use Rattle.book.specs.declared.contract.Contract.{Contract}
@@ -82,3 +82,20 @@ module _ {V : Type 0} (s : State V) (number index : ℕ) (contract : Contract) (
         shortfalls = shortfalls;
         settled = resettled k laws s t (s .rows) (here .terms .seller) (set (contracts s) index (ended here)) taken sizes (room s (chosen .admitted) within)
           (λ i lt force. refl) (λ i lt force. ap (λ (rs : List ℕ). rowOf (s .sizes .hours) rs i) (sym rows) ∙ ap (λ z. rowOf (z .hours) (t .rows) i) (sym sizes)) named }
+
+-- a shortfall that was told stands in the place of the earlier one
+module _ {V : Type 0} (s t : State V) (admitted : Admitted s) (within : s .taken ≤ s .sizes .places) (agent kwh : ℕ) (low : 1 ≤ agent) (high : agent ≤ s .sizes .agents) where
+  pub there : agent - 1 < length (s .shortfalls)
+  there = omega (arith, admitted .shortfalls)
+
+  pub noted : (k : Kind V) → Laws (joins k) → t .taken ≡ s .taken → t .sizes ≡ s .sizes → t .rows ≡ s .rows → t .shortfalls ≡ set (s .shortfalls) (agent - 1) kwh
+    → Settled k (s .sizes) (s .taken) agent kwh (contracts s) (s .rows) (s .places) (t .places) (s .board) (t .board)
+    → Noted k agent kwh s t
+  noted k laws taken sizes rows shortfalls settled =
+      let owed : kwh ≡ shortfallOf t agent = sym (ap (λ (f : List ℕ). getD f (agent - 1) 0) shortfalls ∙ getD-set-same (s .shortfalls) (agent - 1) kwh 0 there) in
+      record {
+        rows = rows;
+        shortfalls = shortfalls;
+        settled = resettled k laws s t (s .rows) agent (contracts s) taken sizes (room s admitted within)
+          (λ i lt force. refl) (λ i lt force. ap (λ (rs : List ℕ). rowOf (s .sizes .hours) rs i) (sym rows) ∙ ap (λ z. rowOf (z .hours) (t .rows) i) (sym sizes))
+          (subst (λ (n : ℕ). Settled k (s .sizes) (s .taken) agent n (contracts s) (s .rows) (s .places) (t .places) (s .board) (t .board)) owed settled) }

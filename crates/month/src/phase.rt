@@ -13,6 +13,7 @@ pub mod offering;
 pub mod positions;
 pub mod questions;
 mod settling;
+pub mod telling;
 
 // An open month takes offers, confirmations, endings and shortfalls.
 pub struct Open {}
