@@ -77,4 +77,49 @@ impl Month<Open> {
         let entering = Contract { state, ..contract };
         Ok((place - 1, entering))
     }
+
+    // A confirmation that passed: the row is written, the contract stands in force, and its seller is resettled.
+    fn enforce<E: Reversible, S: Scale>(
+        &self,
+        places: &mut [Contract],
+        rows: &mut [u32],
+        shortfalls: &[u64],
+        board: &mut [E],
+        number: Number,
+        agent: u16,
+        scale: &S,
+    ) -> Result<(), Fault>
+        ensures { λ r. ⌜ Confirming (meaning E·Joining E·Reversible) number agent (S·Scale .weights (now (scale .entry))) (refusalOf r)
+            (stateOf E·Joining (now (self .entry)) (now (places .entry)) (now (rows .entry)) (now (shortfalls .entry)) (now (board .entry)))
+            (stateOf E·Joining (now (self .entry)) (now (places .exit)) (now (rows .exit)) (now (shortfalls .entry)) (now (board .exit))) ⌝ }
+    {
+        let (index, contract) =
+            self.choose_confirmation(places, rows, shortfalls, board, number, agent, scale)?;
+        write_row(rows, index, self.sizes.hours() as usize, &contract.terms, scale);
+        let shortfall = shortfall_of(shortfalls, contract.terms.seller);
+        self.settle_at(places, index, contract, shortfall, rows, board);
+        Ok(())
+    }
+
+    // Confirms an offered contract, by its buyer, on any scale. It enters into force with its row; its seller's cuts are set anew.
+    // A repeat is refused, and moves nothing.
+    pub fn confirm<E: Reversible, S: Scale>(
+        &self,
+        places: &mut [Contract],
+        rows: &mut [u32],
+        shortfalls: &[u64],
+        board: &mut [E],
+        number: Number,
+        agent: u16,
+        scale: &S,
+    ) -> Result<(), Fault>
+        ensures step { λ r. ⌜ Confirming (meaning E·Joining E·Reversible) number agent (S·Scale .weights (now (scale .entry))) (refusalOf r)
+            (stateOf E·Joining (now (self .entry)) (now (places .entry)) (now (rows .entry)) (now (shortfalls .entry)) (now (board .entry)))
+            (stateOf E·Joining (now (self .entry)) (now (places .exit)) (now (rows .exit)) (now (shortfalls .entry)) (now (board .exit))) ⌝ }
+        ensures life { λ r. ⌜ LeadsOn (meaning E·Joining E·Reversible) (confirmed number agent (S·Scale .weights (now (scale .entry)))) (refusalOf r)
+            (stateOf E·Joining (now (self .entry)) (now (places .entry)) (now (rows .entry)) (now (shortfalls .entry)) (now (board .entry)))
+            (stateOf E·Joining (now (self .entry)) (now (places .exit)) (now (rows .exit)) (now (shortfalls .entry)) (now (board .exit))) ⌝ }
+    {
+        self.enforce(places, rows, shortfalls, board, number, agent, scale)
+    }
 }
