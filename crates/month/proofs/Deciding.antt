@@ -15,13 +15,13 @@ use Rattle.entry.specs.declared.joining.Joining as joining
 use Rattle.book.specs.declared.contract.Contract.{Contract}
 use Rattle.book.specs.declared.contract.Event.{Event}
 use Rattle.book.specs.declared.contract.Event.the-variants.{Confirmation, Ending}
-use Rattle.book.specs.Limits.{mostTotal}
+use Rattle.book.specs.Limits.{between, mostTotal}
 use Rattle.book.specs.Lookup.{FirstPlace, placeOf}
 use Rattle.book.specs.Sound.{sellerTotal}
-use Rattle.book.specs.States.{allowed, nextState}
+use Rattle.book.specs.States.{allowed, inForce, nextState}
 use Rattle.book.specs.Supply.{supplyCheck}
 use Rattle.book.specs.Terms.{blank}
-use Rattle.ledger.specs.Checks.{admitted, atNumber, confirmRefusal, eventCheck}
+use Rattle.ledger.specs.Checks.{admitted, atNumber, confirmRefusal, eventCheck, quantityRefusal}
 use Rattle.ledger.specs.States.{State, contracts, contractAt}
 use Rattle.month.specs.declared.phase.Month.{Month}
 use Rattle.month.specs.Months.{stateOf}
@@ -87,3 +87,16 @@ module _ {E P : Type 0} (j : joining.Ghosts E) (m : Month P) (places : List Cont
   pub room-is : (b : Bool) → b ≡ leb (sellerTotal (getD places (place - 1) blank .terms .seller) (take (m .taken - 0) places) + getD places (place - 1) blank .terms .amount) mostTotal
     → leb (sellerTotal (getD places (place - 1) blank .terms .seller) (contracts now-s) + getD places (place - 1) blank .terms .amount) mostTotal ≡ b
   room-is b e = sym (e ∙ ap (λ (cs : List Contract). leb (sellerTotal (getD places (place - 1) blank .terms .seller) cs + getD places (place - 1) blank .terms .amount) mostTotal) (from-start (m .taken) places))
+
+-- what the question for a quantity examines once the contract is found
+abbrev pub quantityOf : ℕ → Contract → ℕ → ℕ → Option Refusal
+quantityOf hours c place hour = firstOf (unless (between 1 hours hour) 4 2 ∷ unless (inForce c) 10 place ∷ [])
+
+module _ {E P : Type 0} (j : joining.Ghosts E) (m : Month P) (places : List Contract) (rows shortfalls : List ℕ) (board : List E)
+  (number place hour : ℕ) (passes : None ≡ admitted (stateOf j m places rows shortfalls board)) (room : m .taken ≤ length places)
+  (is : Some place ≡ placeOf number (take (m .taken - 0) places)) (first : FirstPlace number (take (m .taken - 0) places) place) where
+  pub quantity-decided : quantityRefusal (stateOf j m places rows shortfalls board) number hour ≡ quantityOf (m .sizes .hours) (getD places (place - 1) blank) place hour
+  quantity-decided =
+      decided j m places rows shortfalls board number
+        (λ p. quantityOf (m .sizes .hours) (contractAt (stateOf j m places rows shortfalls board) (p - 1)) p hour) (Some place) passes (found j m places rows shortfalls board number place is)
+      ∙ ap (λ (c : Contract). quantityOf (m .sizes .hours) c place hour) (sym (at j m places rows shortfalls board room number place first))

@@ -4,7 +4,6 @@ use mathlib.Core.Bool.{Bool, true, false}
 use mathlib.Core.List.{List, [], _∷_}
 use mathlib.Core.Logic.{_≢_}
 use Prim.Native.Nat.{ℕ, _+_, _-_, _*_, _<_, _≤_}
-use native.Mathlib.Nat.{mul-le-mul-right}
 use native.Mathlib.Omega.{arith}
 use lib.Dec.{leb}
 use lib.ListN.{length, getD, set, take}
@@ -26,13 +25,13 @@ use Rattle.book.specs.States.{inForce, isInForce}
 use Rattle.book.specs.Terms.{blank}
 use Rattle.ledger.specs.Calls.{Enforced, enforced, putRow, rounding}
 use Rattle.ledger.specs.States.{State, contracts, contractAt, rowAt, shortfallOf}
-use Rattle.ledger.proofs.Rows.{length-put, row-before, row-here, row-there}
+use Rattle.ledger.proofs.Rows.{length-put, row-here, row-there}
 use Rattle.settle.specs.Settled.{Ready}
 use Rattle.month.specs.Months.{Admitted}
 use Rattle.month.specs.Settling.{Chosen, Settled, Supplied}
 use Rattle.month.proofs.Changing.{ready-changed, resettled, sells-none, sold-changed}
 use Rattle.month.proofs.Checked.{held, passed}
-use Rattle.month.proofs.Finishing.{covered, long, room}
+use Rattle.month.proofs.Finishing.{covered, long, room, row-fits}
 use Rattle.month.proofs.Supplying.{supply}
 
 weighs-some : (ws : List ℕ) → totalCheck ws ≡ None → 1 ≤ sum ws
@@ -64,9 +63,7 @@ module _ {V : Type 0} (s : State V) (number index : ℕ) (contract : Contract) (
   same-terms = ap (λ (c : Contract). c .terms) (chosen .is)
 
   pub row-room : index * hours + hours ≤ length (s .rows)
-  row-room =
-      let next : index < length (contracts s) = inside in
-      omega (arith, row-before index (length (contracts s)) hours next, covered s (chosen .admitted) within (s .rows) refl)
+  row-room = row-fits s (chosen .admitted) within index (chosen .inside)
 
   pub amount-low : here .terms .amount ≤ limit
   amount-low = omega (arith, chosen .admitted .sound .place index blank inside .terms .amount .1)

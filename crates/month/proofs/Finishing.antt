@@ -15,6 +15,7 @@ use Rattle.book.specs.Limits.{mostTotal}
 use Rattle.book.specs.Sound.{rowOf, sellerTotal, soldBy}
 use Rattle.book.specs.States.{inForce}
 use Rattle.book.specs.Terms.{blank}
+use Rattle.ledger.proofs.Rows.{row-before}
 use Rattle.ledger.specs.Calls.{ended, Finished, Noted}
 use Rattle.ledger.specs.States.{State, contracts, contractAt, shortfallOf}
 use Rattle.settle.specs.Settled.{Ready}
@@ -34,6 +35,12 @@ module _ {V : Type 0} (s : State V) (admitted : Admitted s) (within : s .taken �
   covered rows e =
       let few : length (contracts s) ≤ s .sizes .places = omega (arith, long) in
       omega (arith, mul-le-mul-right (s .sizes .hours) few, admitted .rows, e)
+
+  -- the row of a taken place lies within the rows
+  pub row-fits : (index : ℕ) → index < s .taken → index * s .sizes .hours + s .sizes .hours ≤ length (s .rows)
+  row-fits index inside =
+      let next : index < length (contracts s) = omega (arith, long) in
+      omega (arith, row-before index (length (contracts s)) (s .sizes .hours) next, covered (s .rows) refl)
 
   pub ready-told : (entries : ℕ) → entries ≡ s .sizes .agents * 4 * s .sizes .hours → Ready (s .sizes) (contracts s) (contracts s) (s .rows) entries
   ready-told entries full = ready-all (s .sizes) (contracts s) (s .rows) (s .shortfalls) (admitted .sound) entries (covered (s .rows) refl) full

@@ -5,6 +5,8 @@ use mathlib.Core.List.{List}
 use Prim.Native.Nat.{ℕ, _+_, _-_, _*_}
 use lib.Dec.{eqb}
 use Rattle.std.specs.shelf.Lists.{sumBy}
+use Rattle.scale.specs.Shares.{sharesOf}
+use Rattle.scale.specs.Weights.{weightAt}
 use Rattle.entry.specs.Kinds.{Kind}
 use Rattle.book.specs.declared.contract.Contract.{Contract}
 use Rattle.book.specs.declared.sizes.Sizes.{Sizes}
@@ -12,7 +14,8 @@ use Rattle.book.specs.States.{inForce}
 use Rattle.board.specs.Lanes.{lane}
 use Rattle.ledger.specs.Lives.{Lived}
 use Rattle.ledger.specs.Past.{Event}
-use Rattle.ledger.specs.States.{State, contracts}
+use Rattle.ledger.specs.Calls.{rounding}
+use Rattle.ledger.specs.States.{State, contracts, contractAt, rowAt}
 use Rattle.month.specs.Line.{certificateLine}
 
 -- where an agent's entry at a submarket and hour stands on the board, all from 1
@@ -40,3 +43,7 @@ certified s agent = certificateLine agent (sold agent (contracts s)) (bought age
 -- P of the past of every life of a month with these sizes and this board
 abbrev pub InEveryLife : {V : Type 0} → Kind V → Sizes → List V → (List Event → Type 0) → Type 0
 InEveryLife {V} k sizes board P = (past : List Event) (s : State V) → Lived k past s → s .sizes ≡ sizes → s .board ≡ board → P past
+
+-- the quantity at an hour, from 1, of the contract that a number is looked up as
+abbrev pub quantityAt : {V : Type 0} → State V → ℕ → ℕ → ℕ
+quantityAt s place hour = weightAt (sharesOf rounding (contractAt s (place - 1) .effective) (rowAt s (place - 1))) hour

@@ -12,6 +12,7 @@ mod events;
 pub mod opening;
 pub mod offering;
 pub mod positions;
+pub mod quantities;
 pub mod questions;
 mod settling;
 pub mod telling;
