@@ -111,7 +111,7 @@ fn move_place<E: Reversible>(
 }
 
 // Moves the board for every place whose contract was `old` and is `new`.
-pub fn revise<E: Reversible>(
+fn revise<E: Reversible>(
     sizes: &Sizes,
     old: &[Contract],
     new: &[Contract],
@@ -133,7 +133,7 @@ pub fn revise<E: Reversible>(
 }
 
 // Moves the board to the contracts that come after, and puts these in the place of those before.
-pub fn follow<E: Reversible>(
+fn follow<E: Reversible>(
     sizes: &Sizes,
     taken: &mut [Contract],
     after: &[Contract],
@@ -151,7 +151,7 @@ pub fn follow<E: Reversible>(
 }
 
 // Sets a seller's effective amounts in the contracts that an event leaves, and lets board and places follow them.
-pub fn resettle<E: Reversible>(
+fn resettle<E: Reversible>(
     sizes: &Sizes,
     taken: &mut [Contract],
     after: &mut [Contract],

@@ -25,12 +25,15 @@ impl Month<Open> {
 }
 
 impl<P> Month<P> {
-    // Puts the month away for good.
-    pub fn discard(self) {
+    // Puts the month away for good, and answers how many places it had taken.
+    pub fn discard(self) -> u16
+        ensures { λ r. ⌜ r ≡ self .taken ⌝ }
+    {
         let Month {
             sizes: _,
-            taken: _,
+            taken,
             phase: _,
         } = self;
+        taken
     }
 }

@@ -12,7 +12,6 @@ use super::Month;
 use super::Open;
 use book::contract::Contract;
 use book::contract::Offer;
-use book::contract::State;
 use book::lookup::find;
 use entry::reversible::Reversible;
 use scale::fault::Fault;
@@ -52,11 +51,7 @@ impl Month<Open> {
                 spot: 0,
             });
         }
-        places[taken] = Contract {
-            terms,
-            effective: 0,
-            state: State::Offered,
-        };
+        places[taken] = Contract::offered(terms);
         self.taken += 1;
         Ok(())
     }

@@ -9,6 +9,7 @@ use Rattle.std.proofs.shelf.Tests.{lt-ltb}
 use Rattle.scale.specs.Refusals.{refusalOf, unless}
 use Rattle.book.specs.declared.contract.Contract.{Contract}
 use Rattle.book.specs.Lookup.{placeOf}
+use Rattle.book.specs.Terms.{fields}
 use Rattle.ledger.specs.Checks.{free}
 use Rattle.month.proofs.Admission.{from-start}
 use Rattle.month.proofs.Checked.{first-none, first-some}
@@ -36,6 +37,9 @@ returns g c =
             ∙ sym (c .unused .ensures) ∙ ap refusalOf (c .in-Continue-unused .was tt))
         ∙ first-none _ _ (ap (λ b. unless b 7 0) (lt-ltb (m .taken) (m .sizes .places) room)));
       leaves = record {
-        contract = _;
-        offered = record { terms = c .in-Continue-terms .ensures tt .holds; effective = refl; state = refl };
+        contract = c .offered .result;
+        offered = record {
+          terms = ap (λ (x : Contract). fields (x .terms)) (c .offered .ensures) ∙ c .in-Continue-terms .ensures tt .holds;
+          effective = ap (λ (x : Contract). x .effective) (c .offered .ensures);
+          state = ap (λ (x : Contract). x .state) (c .offered .ensures) };
         places = refl; taken = refl; sizes = refl; rows = refl; shortfalls = refl; board = refl } }
