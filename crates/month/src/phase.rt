@@ -9,6 +9,7 @@ mod admission;
 pub mod opening;
 pub mod offering;
 pub mod questions;
+pub mod sizing;
 
 // An open month takes offers, confirmations, endings and shortfalls.
 pub struct Open {}

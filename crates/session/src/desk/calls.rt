@@ -1,0 +1,78 @@
+// The month's calls on the session's memory.
+ghost use mathlib.Core.Path.{_≡_};
+ghost use lib.ListN.{length};
+ghost use Rattle.scale.specs.Refusals.{refusalOf};
+ghost use Rattle.entry.specs.Kinds.{meaning};
+ghost use Rattle.ledger.specs.Calls.{Offering};
+ghost use Rattle.ledger.specs.Past.{offering};
+ghost use Rattle.session.specs.Held.{heldOf, lentTo};
+ghost use Rattle.session.specs.Turns.{Doing, Changes, Called};
+use super::Desk;
+use super::ENTRIES;
+use super::Lengths;
+use crate::stage::Stage;
+use book::contract::Contract;
+use book::contract::Offer;
+use entry::reversible::Reversible;
+use month::phase::Month;
+use month::phase::Open;
+use scale::fault::Fault;
+use scale::fault::Reason;
+use std::mem::replace;
+
+// What a line out of turn is refused with.
+pub(crate) const OUT_OF_TURN: Fault = Fault {
+    reason: Reason::LineUnreadable,
+    spot: 0,
+};
+
+// Puts back what was taken out.
+fn put_back(stage: &mut Stage, next: Stage)
+    requires { ⌜ now stage ≡ Stage.Idle ⌝ }
+    ensures { λ _. ⌜ now (stage .exit) ≡ next ⌝ }
+{
+    match replace(stage, next) {
+        Stage::Idle => {}
+        _ => unreachable(),
+    }
+}
+
+// Lends an open month the front of each memory for an offer.
+fn offer_on<E: Reversible>(month: &mut Month<Open>, lengths: Lengths, places: &mut [Contract], rows: &[u32], shortfalls: &[u64], board: &[E], offer: Offer) -> Result<(), Fault>
+    requires places { ⌜ length (now places) ≡ 16 ⌝ }
+    requires rows { ⌜ length (now rows) ≡ 384 ⌝ }
+    requires shortfalls { ⌜ length (now shortfalls) ≡ 4 ⌝ }
+    requires board { ⌜ length (now board) ≡ 384 ⌝ }
+    ensures { λ r. ⌜ Called (meaning E·Joining E·Reversible) (offering offer) (Offering offer)
+        (lentTo E·Joining (now (month .entry)) lengths (now (places .entry)) (now (rows .entry)) (now (shortfalls .entry)) (now (board .entry)))
+        (refusalOf r)
+        (lentTo E·Joining (now (month .exit)) lengths (now (places .exit)) (now (rows .entry)) (now (shortfalls .entry)) (now (board .entry))) ⌝ }
+{
+    let Lengths {
+        places: n,
+        rows: m,
+        shortfalls: a,
+        entries: b,
+    } = lengths;
+    month.offer(&mut places[..n], &rows[..m], &shortfalls[..a], &board[..b], offer)
+}
+
+impl Desk {
+    pub(crate) fn offer<E: Reversible>(&mut self, board: &[E; ENTRIES], offer: Offer) -> Result<(), Fault>
+        ensures { λ r. ⌜ Doing (Changes (meaning E·Joining E·Reversible) (offering offer) (Offering offer))
+            (heldOf E·Joining (now (self .entry)) (now (board .entry))) (refusalOf r) (heldOf E·Joining (now (self .exit)) (now (board .entry))) ⌝ }
+    {
+        match replace(&mut self.stage, Stage::Idle) {
+            Stage::Open(mut month) => {
+                let lengths = self.lengths;
+                let answer = offer_on(&mut month, lengths, &mut self.places, &self.rows, &self.shortfalls, board, offer);
+                put_back(&mut self.stage, Stage::Open(month));
+                answer
+            }
+            other => {
+                put_back(&mut self.stage, other);
+                Err(OUT_OF_TURN)
+            }
+        }
+    }
+}

@@ -1,0 +1,1 @@
+// Opening a session's month.
