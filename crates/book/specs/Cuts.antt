@@ -3,10 +3,14 @@ use mathlib.Core.Bool.{Bool, false, cond, _&&_}
 use mathlib.Core.List.{List, [], _∷_, map}
 use Prim.Native.Nat.{ℕ, zero, suc, _-_, min}
 use lib.Dec.{eqb, leb}
-use lib.ListN.{getD}
+use lib.ListN.{length, getD}
+use Rattle.std.specs.declared.option.Option.{Option}
 use Rattle.std.specs.shelf.Lists.{sum}
+use Rattle.scale.specs.Refusals.{Refusal, unless, firstOf}
 use Rattle.scale.specs.Shares.{Rule, sharesOf}
 use Rattle.book.specs.declared.contract.Contract.{Contract}
+use Rattle.book.specs.Limits.{mostPlaces, mostTotal}
+use Rattle.book.specs.Sound.{sellerTotal}
 use Rattle.book.specs.States.{inForce}
 use Rattle.book.specs.Terms.{classNumber}
 
@@ -23,9 +27,13 @@ claimOf c = record { seller = c .terms .seller; class = classNumber (c .terms .c
 abbrev pub noClaim : Claim
 noClaim = record { seller = 0; class = 0; amount = 0; standing = false }
 
--- what a contract weighs for a seller and a class: its amount if it is in force for both, otherwise 0
+-- in force for a seller, in a class
+abbrev pub counts : ℕ → ℕ → Claim → Bool
+counts seller class c = c .standing && (eqb (c .seller) seller && eqb (c .class) class)
+
+-- what a contract weighs for a seller and a class: its amount if it counts, otherwise 0
 abbrev pub weight : ℕ → ℕ → Claim → ℕ
-weight seller class c = cond (c .standing && (eqb (c .seller) seller && eqb (c .class) class)) (c .amount) 0
+weight seller class c = cond (counts seller class c) (c .amount) 0
 
 abbrev pub classWeights : ℕ → ℕ → List Claim → List ℕ
 classWeights seller class cs = map (weight seller class) cs
@@ -52,3 +60,34 @@ cutShares rule short seller cs class = sharesOf rule (classCut short (classTotal
 abbrev pub effectiveAt : Rule → ℕ → List Claim → ℕ → ℕ
 effectiveAt rule short cs i =
     getD cs i noClaim .amount - getD (cutShares rule short (getD cs i noClaim .seller) cs (getD cs i noClaim .class)) i 0
+
+-- f at each element and its index, counting from j
+abbrev pub mapFrom : {X Y : Type 0} → (ℕ → X → Y) → ℕ → List X → List Y
+mapFrom f j [] = []
+mapFrom f j (x ∷ xs) = f j x ∷ mapFrom f (suc j) xs
+
+abbrev pub withEffective : ℕ → Contract → Contract
+withEffective e c = record { terms = c .terms; effective = e; state = c .state }
+
+abbrev pub standsFor : ℕ → Contract → Bool
+standsFor seller c = inForce c && eqb (c .terms .seller) seller
+
+-- a seller's contracts in force, each with the effective amount that the cut rule gives it; the others as they are
+abbrev pub recut : Rule → ℕ → ℕ → List Contract → List Contract
+recut rule seller short cs =
+    mapFrom (λ i c. cond (standsFor seller c) (withEffective (effectiveAt rule short (map claimOf cs) i) c) c) 0 cs
+
+-- the checks before a seller's contracts are cut: how many places there are, then the seller's amounts in force
+abbrev pub recutCheck : ℕ → List Contract → Option Refusal
+recutCheck seller cs =
+    firstOf (unless (leb (length cs) mostPlaces) 1 1 ∷ unless (leb (sellerTotal seller cs) mostTotal) 15 0 ∷ [])
+
+-- one step of the rule: a contract that counts keeps its amount less its share
+abbrev pub left : ℕ → ℕ → ℕ → Contract → Contract
+left seller class share c = cond (counts seller class (claimOf c)) (withEffective (c .terms .amount - share) c) c
+
+abbrev pub leftBy : ℕ → ℕ → List ℕ → List Contract → List Contract
+leftBy seller class shares cs = mapFrom (λ i c. left seller class (getD shares i 0) c) 0 cs
+
+abbrev pub cutIn : Rule → ℕ → ℕ → ℕ → List Contract → List Contract
+cutIn rule seller class cut cs = leftBy seller class (sharesOf rule cut (classWeights seller class (map claimOf cs))) cs

@@ -4,5 +4,6 @@ pub mod States
 pub mod Terms
 pub mod Lookup
 pub mod Sound
-pub mod Classes
 pub mod Cuts
+pub mod Figures
+pub mod Supply

@@ -17,3 +17,7 @@ mostAmount = 1000000000
 -- the most that a shortfall, or the amounts in force of one seller, can come to
 abbrev pub mostTotal : ℕ
 mostTotal = 2000000000
+
+-- the most places that a book can have
+abbrev pub mostPlaces : ℕ
+mostPlaces = 256

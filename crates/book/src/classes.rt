@@ -1,7 +1,9 @@
 // The class scale: the amounts that a cut of one seller's class is shared over.
 ghost use mathlib.Core.Path.{_≡_};
 ghost use denote.Ref.{now};
-ghost use Rattle.book.specs.Classes.{classWeight, classWeights, counts};
+ghost use mathlib.Core.List.{map};
+ghost use Rattle.book.specs.Cuts.{claimOf, classWeights, counts, weight as weightOf};
+ghost use Rattle.book.specs.Terms.{classNumber};
 use crate::contract::Class;
 use crate::contract::ClassPartialEq;
 use crate::contract::Contract;
@@ -29,15 +31,28 @@ impl<'a> ClassScale<'a> {
     }
 }
 
-// Whether a contract is in force for a seller, in a class.
-fn sells_in(contract: &Contract, seller: u16, class: Class) -> bool
-    ensures { λ r. ⌜ r ≡ counts seller class (now (contract .entry)) ⌝ }
-{
-    contract.in_force() && contract.terms.seller == seller && contract.terms.class == class
+impl Contract {
+    // Whether the contract is in force for a seller, in a class.
+    pub fn sells_in(&self, seller: u16, class: Class) -> bool
+        ensures { λ r. ⌜ r ≡ counts seller (classNumber class) (claimOf (now (self .entry))) ⌝ }
+    {
+        self.in_force() && self.terms.seller == seller && self.terms.class == class
+    }
+
+    // What the contract weighs for a seller, in a class.
+    pub fn amount_in(&self, seller: u16, class: Class) -> u32
+        ensures { λ r. ⌜ r ≡ weightOf seller (classNumber class) (claimOf (now (self .entry))) ⌝ }
+    {
+        if self.sells_in(seller, class) {
+            self.terms.amount
+        } else {
+            0
+        }
+    }
 }
 
 pub impl Scale for ClassScale<'_> as ClassScaleScale {
-    ghost weights = { λ s. classWeights (s .seller) (s .class) (now (s .taken)) };
+    ghost weights = { λ s. classWeights (s .seller) (classNumber (s .class)) (map claimOf (now (s .taken))) };
 
     fn length(&self) -> usize {
         self.taken.len()
@@ -45,12 +60,7 @@ pub impl Scale for ClassScale<'_> as ClassScaleScale {
 
     fn weight(&self, part: usize) -> u32 {
         if part >= 1 && part <= self.taken.len() {
-            let contract = &self.taken[part - 1];
-            if sells_in(contract, self.seller, self.class) {
-                contract.terms.amount
-            } else {
-                0
-            }
+            self.taken[part - 1].amount_in(self.seller, self.class)
         } else {
             0
         }

@@ -13,6 +13,9 @@ pub const MOST_AMOUNT: u32 = 1_000_000_000;
 // The most that a shortfall, or the amounts in force of one seller, can come to.
 pub const MOST_TOTAL: u64 = 2_000_000_000;
 
+// The most places that a book can have.
+pub const MOST_PLACES: usize = 256;
+
 // How a contract is cut when its seller falls short. The classes are cut in this order; the last never is.
 #[derive(Clone, Copy, PartialEq, Eq)]
 pub enum Class {
@@ -54,6 +57,23 @@ pub struct Contract {
     pub effective: u32,
     pub state: State,
 }
+
+// What stands where no contract does.
+pub const BLANK: Contract = Contract {
+    terms: Terms {
+        number: 0,
+        seller: 0,
+        buyer: 0,
+        submarket: 0,
+        class: Class::Free,
+        source: Source::Conventional,
+        first: 0,
+        last: 0,
+        amount: 0,
+    },
+    effective: 0,
+    state: State::Offered,
+};
 
 // An offer as it is called: the terms as plain numbers, of which nothing is known yet.
 #[derive(Clone, Copy)]

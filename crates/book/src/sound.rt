@@ -8,7 +8,7 @@ ghost use Rattle.book.specs.Limits.{mostTotal};
 ghost use Rattle.book.specs.Sound.{SoundBook, allModerate, bookCheck, soldBy, soundAlone};
 ghost use Rattle.book.specs.Terms.{Acceptable, fields};
 ghost use Rattle.scale.specs.Refusals.{refusalOf};
-ghost use Rattle.std.specs.Vec.{made};
+ghost use Rattle.std.specs.Results.{Cases};
 ghost use Rattle.std.specs.shelf.Lists.{sum};
 use crate::contract::Contract;
 use crate::contract::MOST_TOTAL;
@@ -29,7 +29,7 @@ fn row_total(row: &[u32]) -> u64
 }
 
 // Whether a shortfall, or a seller's total, is within the limit.
-fn moderate(total: u64) -> bool
+pub fn moderate(total: u64) -> bool
     ensures { λ r. ⌜ r ≡ leb total mostTotal ⌝ }
 {
     total <= MOST_TOTAL
@@ -81,7 +81,7 @@ pub fn examine(
     shortfalls: &[u64],
 ) -> Result<(), Fault>
     ensures refused { λ r. ⌜ refusalOf r ≡ bookCheck (now (sizes .entry)) (now (taken .entry)) (now (rows .entry)) (now (shortfalls .entry)) ⌝ }
-    ensures sound { λ r. ⌜ made r (λ _. SoundBook (now (sizes .entry)) (now (taken .entry)) (now (rows .entry)) (now (shortfalls .entry))) ⌝ }
+    ensures sound { λ r. ⌜ Cases r (λ _. SoundBook (now (sizes .entry)) (now (taken .entry)) (now (rows .entry)) (now (shortfalls .entry))) (λ _. SoundBook (now (sizes .entry)) (now (taken .entry)) (now (rows .entry)) (now (shortfalls .entry)) → ⊥) ⌝ }
 {
     if !all_moderate(shortfalls) {
         return Err(Fault {

@@ -1,14 +1,12 @@
-use crate::contract::Class;
 use crate::contract::Contract;
 use crate::contract::Offer;
 use crate::contract::State;
+use crate::cuts::recut;
 use crate::lookup::find;
 use crate::sizes::Sizes;
 use crate::sound::examine;
 use scale::fault::Fault;
 use scale::fault::FaultDebug;
-use scale::fault::FaultPartialEq;
-use scale::fault::Reason;
 use std::test::*;
 
 const OFFER: Offer = Offer {
@@ -80,4 +78,52 @@ fn unsound_books() -> Result<(), Fail> {
         (2, 2),
     )?;
     check_eq(find(&taken, 7), Some(1))
+}
+
+fn in_force(class: u16, amount: u32) -> Result<Contract, Fault> {
+    let offer = Offer {
+        class,
+        amount,
+        ..OFFER
+    };
+    let offered = Contract::offered(offer.terms(&Sizes::new(2, 2, 2)?)?);
+    Ok(Contract {
+        state: State::InForce,
+        ..offered
+    })
+}
+
+// What a shortfall leaves, whatever an earlier one left.
+fn effective(shortfall: u64) -> Result<[u32; 4], Fault> {
+    let mut taken = [
+        in_force(1, 100)?,
+        in_force(1, 50)?,
+        in_force(2, 40)?,
+        in_force(4, 90)?,
+    ];
+    recut(&mut taken, 1, 60)?;
+    recut(&mut taken, 1, shortfall)?;
+    let [a, b, c, d] = taken;
+    Ok([a.effective, b.effective, c.effective, d.effective])
+}
+
+#[test]
+fn classes_are_cut_in_turn() -> Result<(), Fail> {
+    check_eq(effective(0)?, [100, 50, 40, 90])?;
+    check_eq(effective(31)?, [80, 39, 40, 90])?;
+    check_eq(effective(170)?, [0, 0, 20, 90])?;
+    check_eq(effective(500)?, [0, 0, 0, 90])
+}
+
+#[test]
+fn a_seller_over_the_limit() -> Result<(), Fail> {
+    let mut taken = [
+        in_force(1, 1_000_000_000)?,
+        in_force(4, 1_000_000_000)?,
+        in_force(2, 1)?,
+    ];
+    check_eq(told(recut(&mut taken, 1, 5)), (15, 0))?;
+    check_eq(taken[0].effective, 0)?;
+    check_eq(told(recut(&mut taken[0..2], 1, 5)), (0, 0))?;
+    check_eq(taken[0].effective, 999_999_995)
 }

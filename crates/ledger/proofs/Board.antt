@@ -1,13 +1,13 @@
 -- What stands on the board of a month, and how it moves.
-use mathlib.Core.Path.{_≡_, refl, sym, ap, subst, _∙_}
-use mathlib.Core.Bool.{Bool, true, false, cond, _&&_}
+use mathlib.Core.Path.{_≡_, sym, ap, subst, _∙_}
+use mathlib.Core.Bool.{Bool, true, cond, _&&_}
 use mathlib.Core.List.{List}
-use mathlib.Core.Logic.{_⊎_, inl, inr}
-use Prim.Native.Nat.{ℕ, zero, suc, _+_, _-_, _*_, _<_, _≤_}
+use mathlib.Core.Logic.{inl, inr}
+use Prim.Native.Nat.{ℕ, suc, _+_, _-_, _*_, _<_, _≤_}
 use native.Mathlib.Omega.{arith}
 use lib.Dec.{eqb}
 use lib.ListN.{getD}
-use Rattle.std.proofs.shelf.Tests.{cases-bool, cond-true, cond-false, and-parts, eqb-true}
+use Rattle.std.proofs.shelf.Tests.{cases-bool, and-parts, eqb-true}
 use Rattle.entry.specs.Kinds.{Kind, Laws, Cancels, joins, upTo}
 use Rattle.entry.proofs.Totals.{up-same, up-none, up-join, up-swap}
 use Rattle.scale.specs.Shares.{sharesOf}
@@ -17,10 +17,12 @@ use Rattle.book.specs.declared.sizes.Sizes.{Sizes}
 use Rattle.book.specs.States.{inForce}
 use Rattle.book.specs.Terms.{Acceptable, fields}
 use Rattle.ledger.specs.States.{State, contractAt, rowAt}
-use Rattle.ledger.specs.Boards.{lane, cell, positionOf, share, quantityOf, puts, stays, changes, AllCancel, Revised}
+use Rattle.board.specs.Lanes.{lane}
+use Rattle.board.specs.Moves.{cell, share}
+use Rattle.ledger.specs.Boards.{positionOf, quantityOf, puts, stays, changes, AllCancel, Revised}
 use Rattle.ledger.specs.Calls.{rounding}
 use Rattle.ledger.specs.Past.{traded}
-use Rattle.ledger.proofs.Lanes.{join-both, puts-sum, puts-next, share-traded}
+use Rattle.ledger.proofs.Lanes.{puts-sum, puts-next, share-traded}
 
 -- the board holds what the contracts in force put there, and all of it cancels
 pub record Posted {V : Type 0} (k : Kind V) (s : State V) : Type 0 where

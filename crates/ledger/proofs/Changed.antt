@@ -1,19 +1,16 @@
 -- Confirmation, ending and telling keep what every life keeps.
 use mathlib.Core.Path.{_≡_, refl, sym, ap, subst, _∙_}
-use mathlib.Core.Bool.{Bool, true, false, cond}
-use mathlib.Core.List.{List, [], _∷_, map}
-use mathlib.Core.Logic.{_≢_, _⊎_, inl, inr}
-use Prim.Native.Nat.{ℕ, zero, suc, _+_, _-_, _*_, _<_, _≤_}
+use mathlib.Core.Bool.{true, false, cond}
+use mathlib.Core.List.{List, map}
+use mathlib.Core.Logic.{_≢_, inl, inr}
+use Prim.Native.Nat.{ℕ, _+_, _-_, _*_, _<_, _≤_}
 use native.Mathlib.Omega.{arith}
-use native.Mathlib.Nat.{le-trans, mul-le-mul-right}
 use lib.Dec.{eqb}
-use lib.ListN.{length, getD, set, take}
-use Rattle.std.specs.declared.option.Option.{Option}
+use lib.ListN.{length, getD, set}
 use Rattle.std.specs.declared.option.Option.the-variants.{Some, None}
 use Rattle.std.specs.shelf.Lists.{sum}
 use Rattle.std.proofs.shelf.Lists.{length-map, length-set, length-take-le, getD-map, getD-set-same, getD-set-other}
 use Rattle.std.proofs.shelf.Tests.{cases-eq, eq-eqb, ne-eqb, cond-true, cond-false, both-ways}
-use Rattle.scale.specs.Refusals.{Refusal}
 use Rattle.scale.specs.Shares.{sharesOf}
 use Rattle.scale.specs.Weights.{clipped}
 use Rattle.scale.proofs.Parts.{length-clippedFrom}
@@ -26,15 +23,16 @@ use Rattle.book.specs.declared.contract.State.the-variants.{InForce, Ended}
 use Rattle.book.specs.declared.sizes.Sizes.{Sizes}
 use Rattle.book.specs.Lookup.{placeOf}
 use Rattle.book.specs.Sound.{rowOf}
-use Rattle.book.specs.States.{inForce, isInForce}
-use Rattle.book.specs.Terms.{Acceptable, fields}
-use Rattle.ledger.specs.States.{State, blank, contracts, contractAt, rowAt, shortfallOf}
-use Rattle.ledger.specs.Calls.{rounding, withState, withEffective, putRow, Resettled, Enforced, Finished, Noted}
+use Rattle.book.specs.States.{inForce}
+use Rattle.book.specs.Terms.{fields, blank}
+use Rattle.ledger.specs.States.{State, contracts, contractAt, rowAt}
+use Rattle.book.specs.Cuts.{withEffective}
+use Rattle.ledger.specs.Calls.{rounding, withState, putRow, Resettled, Enforced, Finished, Noted}
 use Rattle.ledger.specs.Checks.{confirmRefusal, tellRefusal}
 use Rattle.ledger.specs.Past.{Line, Ledger, noLine, lineAt, stands, atNumber, confirmed, ended, noted, confirming, ending, telling}
 use Rattle.ledger.proofs.Kept.{Kept, Confirmed, Moves, settle}
 use Rattle.ledger.proofs.Numbers.{place-some}
-use Rattle.ledger.proofs.Passed.{PassedConfirmation, confirmation-passed, telling-passed}
+use Rattle.ledger.proofs.Passed.{confirmation-passed, telling-passed}
 use Rattle.ledger.proofs.Rows.{row-before, row-here, row-there}
 
 -- ledger lines that change at a number alone

@@ -2,10 +2,9 @@
 use mathlib.Core.Path.{_≡_, refl, sym, ap, subst, _∙_}
 use mathlib.Core.Bool.{Bool, true, false, cond, _&&_}
 use mathlib.Core.List.{List}
-use mathlib.Core.Logic.{_≢_, _⊎_, inl, inr}
-use Prim.Native.Nat.{ℕ, zero, suc, _+_, _-_, _*_, _<_, _≤_}
+use mathlib.Core.Logic.{inl, inr}
+use Prim.Native.Nat.{ℕ, zero, suc, _+_, _*_, _<_, _≤_}
 use native.Mathlib.Omega.{arith}
-use native.Mathlib.Nat.{le-trans, mul-le-mul-right}
 use lib.Dec.{eqb}
 use lib.IntN.{ℤ, pos, negℤ, _+ℤ_, _-ℤ_, +ℤ-idl, +ℤ-idr}
 use lib.ListN.{length, getD}
@@ -19,17 +18,16 @@ use Rattle.std.proofs.shelf.Tests.{cases-lt, cond-both, eqb-true, and-parts}
 use Rattle.scale.specs.Weights.{weightAt}
 use Rattle.entry.specs.Kinds.{Kind, Laws, joins, upTo}
 use Rattle.entry.specs.Meanings.{netKind, bySourceKind}
-use Rattle.entry.specs.Words.{Word, word, wordOf, Words, noWords, wordJoins, bothJoins, naturals, integers}
+use Rattle.entry.specs.Words.{Word, word, wordOf, noWords, wordJoins, bothJoins, naturals, integers}
 use Rattle.entry.proofs.Exact.{up-words, up-both, up-pos, up-neg, up-at-most, integer-laws, net-exact, by-source-exact}
 use Rattle.entry.proofs.Totals.{up-same, up-join}
 use Rattle.entry.proofs.Wrap.{word-laws, both-laws}
 use Rattle.ledger.specs.States.{State}
 use Rattle.ledger.specs.Boards.{positionOf}
-use Rattle.ledger.specs.Past.{Event, Ledger, ledger, lineAt, stands, effectiveIn, quantitiesIn, sourceOf, positionIn}
-use Rattle.ledger.specs.Balance.{sumTo, Balanced}
+use Rattle.ledger.specs.Past.{Event, Ledger, ledger, lineAt, stands, quantitiesIn, sourceOf}
+use Rattle.ledger.specs.Balance.{sumTo}
 use Rattle.ledger.specs.Differences.{counts, salesIn, purchasesIn, differenceIn, NetIsTrue, BySourceIsTrue}
 use Rattle.ledger.specs.Lives.{Lived}
-use Rattle.ledger.proofs.Kept.{Kept}
 use Rattle.ledger.proofs.Law.{kept-in-life, lives-balance}
 
 -- the quantity of a contract with its sign: sold, bought or neither
@@ -42,8 +40,8 @@ neither true false sells buys q = refl
 neither false here sells buys q = refl
 
 net-line : (standing here sells buys : Bool) (q src : ℕ) → (sells ≡ true → buys ≡ true → ⊥) →
-  cond standing (cond here (cond sells (netKind .sold q (sourceOf src)) (cond buys (netKind .bought q (sourceOf src)) (word 0))) (word 0)) (word 0)
-  ≡ wordOf (signed standing here true sells buys q)
+    cond standing (cond here (cond sells (netKind .sold q (sourceOf src)) (cond buys (netKind .bought q (sourceOf src)) (word 0))) (word 0)) (word 0)
+    ≡ wordOf (signed standing here true sells buys q)
 net-line true true true true q src apart = absurd (apart refl refl)
 net-line true true true false q src apart = ap wordOf (sym (+ℤ-idr (pos q)))
 net-line true true false true q src apart = ap wordOf (sym (+ℤ-idl (negℤ (pos q))))
@@ -52,8 +50,8 @@ net-line true false sells buys q src apart = refl
 net-line false here sells buys q src apart = refl
 
 by-source-line : (standing here sells buys : Bool) (q src : ℕ) → src ≤ 1 → (sells ≡ true → buys ≡ true → ⊥) →
-  cond standing (cond here (cond sells (bySourceKind .sold q (sourceOf src)) (cond buys (bySourceKind .bought q (sourceOf src)) noWords)) noWords) noWords
-  ≡ (wordOf (signed standing here (eqb 0 src) sells buys q), wordOf (signed standing here (eqb 1 src) sells buys q))
+    cond standing (cond here (cond sells (bySourceKind .sold q (sourceOf src)) (cond buys (bySourceKind .bought q (sourceOf src)) noWords)) noWords) noWords
+    ≡ (wordOf (signed standing here (eqb 0 src) sells buys q), wordOf (signed standing here (eqb 1 src) sells buys q))
 by-source-line true true true true q src small apart = absurd (apart refl refl)
 by-source-line true true true false q zero small apart = ap (λ (z : ℤ). (wordOf z, wordOf (pos 0))) (sym (+ℤ-idr (pos q)))
 by-source-line true true true false q (suc zero) small apart = ap (λ (z : ℤ). (wordOf (pos 0), wordOf z)) (sym (+ℤ-idr (pos q)))
@@ -82,8 +80,9 @@ difference-joins n f g =
 part-most : (ws : List ℕ) (hour : ℕ) → weightAt ws hour ≤ sum ws
 part-most ws zero = omega arith
 part-most ws (suc j) = elim (cases-lt j (length ws)) [
-    inl less ↦ getD-le-sumBy (λ x. x) ws j 0 less
-  | inr more ↦ let none : getD ws j 0 ≡ 0 = getD-past ws j 0 more in omega arith ]
+  | inl less ↦ getD-le-sumBy (λ x. x) ws j 0 less
+  | inr more ↦ let none : getD ws j 0 ≡ 0 = getD-past ws j 0 more in omega arith
+]
 
 difference-fits : (m n : ℕ) → m ≤ 256000000000 → n ≤ 256000000000 → SFits w64 (pos m -ℤ pos n)
 difference-fits m n low high = search (arith, ints)
@@ -111,38 +110,38 @@ module _ {V : Type 0} (k : Kind V) (laws : Laws (joins k)) (past : List Event) (
       omega (arith, part-most (quantitiesIn (ledger past) i) hour)
 
   counted-most : (i hour : ℕ) (rest party : Bool) → i < length (ledger past .lines) →
-    cond ((stands (lineAt (ledger past) i) && rest) && party) (weightAt (quantitiesIn (ledger past) i) hour) 0 ≤ 1000000000
+      cond ((stands (lineAt (ledger past) i) && rest) && party) (weightAt (quantitiesIn (ledger past) i) hour) 0 ≤ 1000000000
   counted-most i hour rest party p =
       cond-both ((stands (lineAt (ledger past) i) && rest) && party) (weightAt (quantitiesIn (ledger past) i) hour) 0 (λ (x : ℕ). x ≤ 1000000000)
-        (λ e. quantity-most i hour p (and-parts (stands (lineAt (ledger past) i)) rest (and-parts (stands (lineAt (ledger past) i) && rest) party e .0) .0))
-        (λ e. omega arith)
+      (λ e. quantity-most i hour p (and-parts (stands (lineAt (ledger past) i)) rest (and-parts (stands (lineAt (ledger past) i) && rest) party e .0) .0))
+      (λ e. omega arith)
 
   fits : (test : ℕ → Bool) (agent submarket hour : ℕ) → SFits w64 (differenceIn (ledger past) test agent submarket hour)
   fits test agent submarket hour =
       let line = lineAt (ledger past) in
       difference-fits (salesIn (ledger past) test agent submarket hour) (purchasesIn (ledger past) test agent submarket hour)
-        (sum-most (length (ledger past .lines)) _ few (λ i p. counted-most i hour (eqb (line i .fields .submarket) submarket && test (line i .fields .source)) (eqb (line i .fields .seller) agent) p))
-        (sum-most (length (ledger past .lines)) _ few (λ i p. counted-most i hour (eqb (line i .fields .submarket) submarket && test (line i .fields .source)) (eqb (line i .fields .buyer) agent) p))
+      (sum-most (length (ledger past .lines)) _ few (λ i p. counted-most i hour (eqb (line i .fields .submarket) submarket && test (line i .fields .source)) (eqb (line i .fields .seller) agent) p))
+      (sum-most (length (ledger past .lines)) _ few (λ i p. counted-most i hour (eqb (line i .fields .submarket) submarket && test (line i .fields .source)) (eqb (line i .fields .buyer) agent) p))
 
   -- nobody buys from itself
   one-party : (i agent : ℕ) → i < length (ledger past .lines) → eqb (lineAt (ledger past) i .fields .seller) agent ≡ true → eqb (lineAt (ledger past) i .fields .buyer) agent ≡ true → ⊥
   one-party i agent p sells buys = kept-in-life k laws lived .fit i (taken-of i p) .parties
-    (eqb-true (lineAt (ledger past) i .fields .seller) agent sells ∙ sym (eqb-true (lineAt (ledger past) i .fields .buyer) agent buys))
+      (eqb-true (lineAt (ledger past) i .fields .seller) agent sells ∙ sym (eqb-true (lineAt (ledger past) i .fields .buyer) agent buys))
 
   source-small : (i : ℕ) → i < length (ledger past .lines) → lineAt (ledger past) i .fields .source ≤ 1
   source-small i p = kept-in-life k laws lived .fit i (taken-of i p) .source
 
 abbrev signedIn : Ledger → (ℕ → Bool) → ℕ → ℕ → ℕ → ℕ → ℤ
 signedIn b test agent submarket hour i =
-  signed (stands (lineAt b i)) (eqb (lineAt b i .fields .submarket) submarket) (test (lineAt b i .fields .source))
+    signed (stands (lineAt b i)) (eqb (lineAt b i .fields .submarket) submarket) (test (lineAt b i .fields .source))
     (eqb (lineAt b i .fields .seller) agent) (eqb (lineAt b i .fields .buyer) agent) (weightAt (quantitiesIn b i) hour)
 
 signed-total : (b : Ledger) (test : ℕ → Bool) (agent submarket hour : ℕ) →
-  upTo integers (length (b .lines)) (signedIn b test agent submarket hour) ≡ differenceIn b test agent submarket hour
+    upTo integers (length (b .lines)) (signedIn b test agent submarket hour) ≡ differenceIn b test agent submarket hour
 signed-total b test agent submarket hour =
     difference-joins (length (b .lines))
-      (λ i. cond (counts b test submarket i && eqb (lineAt b i .fields .seller) agent) (weightAt (quantitiesIn b i) hour) 0)
-      (λ i. cond (counts b test submarket i && eqb (lineAt b i .fields .buyer) agent) (weightAt (quantitiesIn b i) hour) 0)
+    (λ i. cond (counts b test submarket i && eqb (lineAt b i .fields .seller) agent) (weightAt (quantitiesIn b i) hour) 0)
+    (λ i. cond (counts b test submarket i && eqb (lineAt b i .fields .buyer) agent) (weightAt (quantitiesIn b i) hour) 0)
 
 pub net-true : NetIsTrue
 net-true past s lived agent submarket hour a1 aa m1 m4 h1 hh e held is =
@@ -150,11 +149,11 @@ net-true past s lived agent submarket hour a1 aa m1 m4 h1 hh e held is =
     let n = length (b .lines) in
     let z = signedIn b (λ _. true) agent submarket hour in
     let value : positionOf netKind s agent submarket hour ≡ wordOf (differenceIn b (λ _. true) agent submarket hour) =
-          lives-balance netKind word-laws past s lived .positions agent submarket hour a1 aa m1 m4 h1 hh
-          ∙ up-same wordJoins word-laws n _ (λ i. wordOf (z i)) (λ i p.
-              net-line (stands (lineAt b i)) (eqb (lineAt b i .fields .submarket) submarket) (eqb (lineAt b i .fields .seller) agent) (eqb (lineAt b i .fields .buyer) agent)
-                (weightAt (quantitiesIn b i) hour) (lineAt b i .fields .source) (one-party netKind word-laws past s lived i agent p))
-          ∙ up-words n z ∙ ap wordOf (signed-total b (λ _. true) agent submarket hour) in
+    lives-balance netKind word-laws past s lived .positions agent submarket hour a1 aa m1 m4 h1 hh
+    ∙ up-same wordJoins word-laws n _ (λ i. wordOf (z i)) (λ i p.
+    net-line (stands (lineAt b i)) (eqb (lineAt b i .fields .submarket) submarket) (eqb (lineAt b i .fields .seller) agent) (eqb (lineAt b i .fields .buyer) agent)
+    (weightAt (quantitiesIn b i) hour) (lineAt b i .fields .source) (one-party netKind word-laws past s lived i agent p))
+    ∙ up-words n z ∙ ap wordOf (signed-total b (λ _. true) agent submarket hour) in
     net-exact e (differenceIn b (λ _. true) agent submarket hour) held (fits netKind word-laws past s lived (λ _. true) agent submarket hour) (is ∙ value)
 
 pub by-source-true : BySourceIsTrue
@@ -164,12 +163,12 @@ by-source-true past s lived agent submarket hour a1 aa m1 m4 h1 hh e held held�
     let y = signedIn b (eqb 0) agent submarket hour in
     let z = signedIn b (eqb 1) agent submarket hour in
     let value : positionOf bySourceKind s agent submarket hour ≡ (wordOf (differenceIn b (eqb 0) agent submarket hour), wordOf (differenceIn b (eqb 1) agent submarket hour)) =
-          lives-balance bySourceKind both-laws past s lived .positions agent submarket hour a1 aa m1 m4 h1 hh
-          ∙ up-same bothJoins both-laws n _ (λ i. (wordOf (y i), wordOf (z i))) (λ i p.
-              by-source-line (stands (lineAt b i)) (eqb (lineAt b i .fields .submarket) submarket) (eqb (lineAt b i .fields .seller) agent) (eqb (lineAt b i .fields .buyer) agent)
-                (weightAt (quantitiesIn b i) hour) (lineAt b i .fields .source) (source-small bySourceKind both-laws past s lived i p) (one-party bySourceKind both-laws past s lived i agent p))
-          ∙ up-both n (λ i. wordOf (y i)) (λ i. wordOf (z i))
-          ∙ ap (λ (w : Word). (w, upTo wordJoins n (λ i. wordOf (z i)))) (up-words n y ∙ ap wordOf (signed-total b (eqb 0) agent submarket hour))
-          ∙ ap (λ (w : Word). (wordOf (differenceIn b (eqb 0) agent submarket hour), w)) (up-words n z ∙ ap wordOf (signed-total b (eqb 1) agent submarket hour)) in
+    lives-balance bySourceKind both-laws past s lived .positions agent submarket hour a1 aa m1 m4 h1 hh
+    ∙ up-same bothJoins both-laws n _ (λ i. (wordOf (y i), wordOf (z i))) (λ i p.
+    by-source-line (stands (lineAt b i)) (eqb (lineAt b i .fields .submarket) submarket) (eqb (lineAt b i .fields .seller) agent) (eqb (lineAt b i .fields .buyer) agent)
+    (weightAt (quantitiesIn b i) hour) (lineAt b i .fields .source) (source-small bySourceKind both-laws past s lived i p) (one-party bySourceKind both-laws past s lived i agent p))
+    ∙ up-both n (λ i. wordOf (y i)) (λ i. wordOf (z i))
+    ∙ ap (λ (w : Word). (w, upTo wordJoins n (λ i. wordOf (z i)))) (up-words n y ∙ ap wordOf (signed-total b (eqb 0) agent submarket hour))
+    ∙ ap (λ (w : Word). (wordOf (differenceIn b (eqb 0) agent submarket hour), w)) (up-words n z ∙ ap wordOf (signed-total b (eqb 1) agent submarket hour)) in
     by-source-exact e (differenceIn b (eqb 0) agent submarket hour) (differenceIn b (eqb 1) agent submarket hour) held held′
-      (fits bySourceKind both-laws past s lived (eqb 0) agent submarket hour) (fits bySourceKind both-laws past s lived (eqb 1) agent submarket hour) (is ∙ value)
+    (fits bySourceKind both-laws past s lived (eqb 0) agent submarket hour) (fits bySourceKind both-laws past s lived (eqb 1) agent submarket hour) (is ∙ value)

@@ -1,9 +1,9 @@
 -- What every life of a month keeps: its memories are those of the ledger of its past.
-use mathlib.Core.Path.{_≡_, refl, sym, ap, subst, _∙_}
-use mathlib.Core.Bool.{Bool, true, false, cond, _&&_}
-use mathlib.Core.List.{List, [], _∷_, _++_, map}
+use mathlib.Core.Path.{_≡_, sym, ap, subst, _∙_}
+use mathlib.Core.Bool.{Bool, true, false}
+use mathlib.Core.List.{List, map}
 use mathlib.Core.Logic.{_≢_, _⊎_, inl, inr}
-use Prim.Native.Nat.{ℕ, zero, suc, _+_, _-_, _*_, _<_, _≤_}
+use Prim.Native.Nat.{ℕ, _<_, _≤_}
 use native.Mathlib.Omega.{arith}
 use lib.Dec.{eqb}
 use lib.ListN.{length, getD}
@@ -16,11 +16,11 @@ use Rattle.book.specs.declared.contract.Contract.{Contract}
 use Rattle.book.specs.declared.contract.Offer.{Offer}
 use Rattle.book.specs.declared.contract.State as state
 use Rattle.book.specs.declared.sizes.Sizes.{Sizes}
-use Rattle.book.specs.Cuts.{Claim, noClaim, claimOf, effectiveAt, classWeights}
+use Rattle.book.specs.Cuts.{Claim, noClaim, claimOf, effectiveAt, standsFor}
 use Rattle.book.specs.States.{inForce, isInForce}
-use Rattle.book.specs.Terms.{Acceptable, fields}
-use Rattle.ledger.specs.States.{State, blank, contracts, contractAt, rowAt, shortfallOf}
-use Rattle.ledger.specs.Calls.{rounding, recut, standsFor, withEffective, Resettled}
+use Rattle.book.specs.Terms.{Acceptable, fields, blank}
+use Rattle.ledger.specs.States.{State, contracts, contractAt, rowAt, shortfallOf}
+use Rattle.ledger.specs.Calls.{rounding, Resettled}
 use Rattle.ledger.specs.Past.{Line, Ledger, noLine, lineAt, stands, claimIn, effectiveIn}
 use Rattle.ledger.proofs.Board.{Posted, Fits, posted-next}
 use Rattle.ledger.proofs.Recut.{recutAt, getD-recut, recut-terms, recut-state, effective-same, weights-same}

@@ -1,9 +1,9 @@
 -- What a contract puts on the lanes of a board: on two lanes, off again, and over all agents.
-use mathlib.Core.Path.{_≡_, refl, sym, ap, subst, _∙_}
+use mathlib.Core.Path.{_≡_, refl, sym, ap, _∙_}
 use mathlib.Core.Bool.{Bool, true, false, cond}
 use mathlib.Core.List.{List}
-use mathlib.Core.Logic.{_≢_, _⊎_, inl, inr}
-use Prim.Native.Nat.{ℕ, zero, suc, _+_, _-_, _*_, _<_, _≤_}
+use mathlib.Core.Logic.{_≢_, inl, inr}
+use Prim.Native.Nat.{ℕ, _+_, _-_, _*_, _<_, _≤_}
 use native.Mathlib.Omega.{arith}
 use lib.Dec.{eqb}
 use Rattle.std.proofs.shelf.Tests.{cases-eq, cases-bool, eq-eqb, ne-eqb, cond-true, cond-false}
@@ -16,7 +16,9 @@ use Rattle.book.specs.declared.contract.Contract.{Contract}
 use Rattle.book.specs.declared.sizes.Sizes.{Sizes}
 use Rattle.book.specs.States.{inForce}
 use Rattle.book.specs.Terms.{Acceptable, fields, sourceNumber}
-use Rattle.ledger.specs.Boards.{lane, share, sellerLane, buyerLane, quantityOf, puts, takesOff, stays, changes, AllCancel}
+use Rattle.board.specs.Lanes.{lane}
+use Rattle.board.specs.Moves.{share}
+use Rattle.ledger.specs.Boards.{sellerLane, buyerLane, quantityOf, puts, takesOff, stays, changes, AllCancel}
 use Rattle.ledger.specs.Past.{traded, sourceOf}
 
 module _ {V : Type 0} (k : Kind V) (from to : ℕ) (s : Source) (q : ℕ) where

@@ -1,9 +1,9 @@
 -- What a lookup of a number tells, and what checks that pass tell.
-use mathlib.Core.Path.{_≡_, refl, sym, ap, subst, _∙_}
-use mathlib.Core.Bool.{Bool, true, false, cond}
+use mathlib.Core.Path.{_≡_, refl, sym, ap, _∙_}
+use mathlib.Core.Bool.{Bool, true, false}
 use mathlib.Core.List.{List, [], _∷_}
-use mathlib.Core.Logic.{_≢_, _⊎_, inl, inr}
-use Prim.Native.Nat.{ℕ, zero, suc, _+_, _-_, _<_, _≤_}
+use mathlib.Core.Logic.{_≢_, inl, inr}
+use Prim.Native.Nat.{ℕ, zero, suc, _+_, _<_}
 use native.Mathlib.Omega.{arith}
 use lib.Dec.{eqb}
 use lib.ListN.{length, getD}
@@ -13,8 +13,8 @@ use Rattle.std.specs.Options.{isSome}
 use Rattle.std.proofs.shelf.Tests.{cases-bool, cond-true, cond-false, eq-eqb, eqb-true, both-ways}
 use Rattle.scale.specs.Refusals.{Refusal, unless, firstOf}
 use Rattle.book.specs.declared.contract.Contract.{Contract}
-use Rattle.book.specs.Lookup.{placeFrom, placeOf}
-use Rattle.ledger.specs.States.{blank}
+use Rattle.book.specs.Lookup.{placeFrom}
+use Rattle.book.specs.Terms.{blank}
 
 pub some≢none : {A : Type 0} (a : A) → Some a ≡ None → ⊥
 some≢none a e = both-ways true (ap isSome e) refl

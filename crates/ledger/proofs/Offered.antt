@@ -1,14 +1,14 @@
 -- Opening gives what every life keeps, and an offer keeps it.
 use mathlib.Core.Path.{_≡_, refl, sym, ap, subst, _∙_}
-use mathlib.Core.Bool.{Bool, true, false, cond}
+use mathlib.Core.Bool.{true, false}
 use mathlib.Core.List.{List, [], _∷_, _++_, map}
-use mathlib.Core.Logic.{_≢_, _⊎_, inl, inr}
-use Prim.Native.Nat.{ℕ, zero, suc, _+_, _-_, _*_, _<_, _≤_}
+use mathlib.Core.Logic.{_≢_, inl, inr}
+use Prim.Native.Nat.{ℕ, _+_, _-_, _*_, _<_, _≤_}
 use native.Mathlib.Omega.{arith}
-use lib.ListN.{length, getD, set, take, replicate}
+use lib.ListN.{length, getD, take, replicate}
 use Rattle.std.specs.declared.option.Option.the-variants.{None}
 use Rattle.std.proofs.shelf.Lists.{length-set, length-push, length-map, length-take-le, getD-append-left, getD-push, getD-replicate, getD-past, length-replicate, take-more-set, map-push}
-use Rattle.std.proofs.shelf.Tests.{cases-eq, cases-lt, cond-false, both-ways}
+use Rattle.std.proofs.shelf.Tests.{cases-lt, cond-false, both-ways}
 use Rattle.entry.specs.Kinds.{Kind, Laws, joins, upTo}
 use Rattle.entry.proofs.Totals.{up-more, up-same}
 use Rattle.book.specs.declared.contract.Contract.{Contract}
@@ -17,9 +17,10 @@ use Rattle.book.specs.declared.sizes.Sizes.{Sizes}
 use Rattle.book.specs.Cuts.{Claim, effectiveAt}
 use Rattle.book.specs.Sound.{rowOf}
 use Rattle.book.specs.States.{inForce, isInForce}
-use Rattle.book.specs.Terms.{Acceptable, fields}
-use Rattle.ledger.specs.States.{State, blank, contracts, contractAt, rowAt, shortfallOf}
-use Rattle.ledger.specs.Boards.{cell, puts, AllCancel}
+use Rattle.book.specs.Terms.{Acceptable, fields, blank}
+use Rattle.ledger.specs.States.{State, contracts, contractAt, rowAt}
+use Rattle.board.specs.Moves.{cell}
+use Rattle.ledger.specs.Boards.{puts, AllCancel}
 use Rattle.ledger.specs.Calls.{rounding, Taken, Opened}
 use Rattle.ledger.specs.Checks.{offerRefusal}
 use Rattle.ledger.specs.Past.{Line, Ledger, ledger, noLine, lineAt, stands, claimIn, effectiveIn, entered, noted, offering}

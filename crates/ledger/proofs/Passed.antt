@@ -1,21 +1,20 @@
 -- What an accepted call has passed.
-use mathlib.Core.Path.{_≡_, refl, sym, ap, subst, _∙_}
-use mathlib.Core.Bool.{Bool, true, false}
-use mathlib.Core.List.{List, [], _∷_}
+use mathlib.Core.Path.{_≡_, refl, sym, subst}
+use mathlib.Core.Bool.{true, false}
+use mathlib.Core.List.{List, []}
 use mathlib.Core.Logic.{_≢_}
 use Prim.Native.Nat.{ℕ, _+_, _-_, _*_, _<_, _≤_}
 use native.Mathlib.Omega.{arith}
 use lib.Dec.{eqb, leb, ltb}
-use lib.ListN.{length, getD}
+use lib.ListN.{length}
 use Rattle.std.specs.declared.option.Option.{Option}
 use Rattle.std.specs.declared.option.Option.the-variants.{Some, None}
 use Rattle.std.specs.Options.{isSome}
 use Rattle.std.specs.shelf.Lists.{sum}
-use Rattle.std.proofs.shelf.Tests.{eqb-true, leb-true, ltb-true, and-parts, both-ways}
+use Rattle.std.proofs.shelf.Tests.{eqb-true, leb-true, ltb-true, and-parts}
 use Rattle.scale.specs.Refusals.{Refusal, unless, firstOf}
 use Rattle.scale.specs.Totals.{totalCheck}
 use Rattle.scale.specs.Weights.{clipped}
-use Rattle.book.specs.declared.contract.Contract.{Contract}
 use Rattle.book.specs.declared.contract.Event.the-variants.{Confirmation}
 use Rattle.book.specs.declared.contract.Offer.{Offer}
 use Rattle.book.specs.declared.contract.State as state
@@ -24,8 +23,9 @@ use Rattle.book.specs.Lookup.{placeOf}
 use Rattle.book.specs.States.{isInForce, inForce, nextState, allowed}
 use Rattle.book.specs.Terms.{Acceptable, offerChecks}
 use Rattle.book.proofs.Checking.{acceptable}
-use Rattle.ledger.specs.States.{State, contracts, contractAt, blank}
-use Rattle.ledger.specs.Checks.{lengthsOf, admitted, atNumber, free, offerRefusal, eventCheck, scaleCheck, confirmRefusal, tellRefusal}
+use Rattle.ledger.specs.States.{State, contracts, contractAt}
+use Rattle.book.specs.Supply.{supplyCheck}
+use Rattle.ledger.specs.Checks.{lengthsOf, admitted, atNumber, free, offerRefusal, eventCheck, confirmRefusal, tellRefusal}
 use Rattle.ledger.proofs.Numbers.{some≢none, first-none, unless-none, place-none}
 
 pub record Lengths {V : Type 0} (s : State V) : Type 0 where
@@ -86,7 +86,7 @@ module _ {V : Type 0} (s : State V) where
   not-yet Ended e = refl
 
   at-index : (index agent : ℕ) (weights : List ℕ) →
-      eventCheck s Confirmation agent (index + 1) ≡ None → scaleCheck s (contractAt s (index + 1 - 1)) weights ≡ None →
+      eventCheck s Confirmation agent (index + 1) ≡ None → supplyCheck (s .sizes .hours) (contractAt s (index + 1 - 1) .terms) weights ≡ None →
       (inForce (contractAt s index) ≡ false) × ((length weights ≡ s .sizes .hours) × (1 ≤ sum (clipped (contractAt s index .terms .first) (contractAt s index .terms .last) weights)))
   at-index index agent weights event scale =
       let e1 : index + 1 - 1 ≡ index = omega arith in
@@ -110,7 +110,7 @@ module _ {V : Type 0} (s : State V) where
       let p2 = first-none (atNumber (placeOf number (contracts s)) _) _ (p1 .1) in
       let p3 = at-found _ (placeOf number (contracts s)) (index + 1) found (p2 .0) in
       let p4 = first-none (eventCheck s Confirmation agent (index + 1)) _ p3 in
-      let p5 = first-none (scaleCheck s (contractAt s (index + 1 - 1)) weights) _ (p4 .1) in
+      let p5 = first-none (supplyCheck (s .sizes .hours) (contractAt s (index + 1 - 1) .terms) weights) _ (p4 .1) in
       let facts = at-index index agent weights (p4 .0) (p5 .0) in
       record { lengths = lengths (p1 .0); idle = facts .0; hours = facts .1 .0; weighs = facts .1 .1 }
 

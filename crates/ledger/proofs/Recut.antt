@@ -1,9 +1,9 @@
 -- What the cut rule reads, and what a recut leaves at each place.
 use mathlib.Core.Path.{_≡_, refl, sym, ap, subst, _∙_, fun-ext}
-use mathlib.Core.Bool.{Bool, true, false, cond, _&&_}
+use mathlib.Core.Bool.{Bool, true, false, cond}
 use mathlib.Core.List.{List, [], _∷_, _++_, map}
 use mathlib.Core.Logic.{_≢_, _⊎_, inl, inr}
-use Prim.Native.Nat.{ℕ, zero, suc, _+_, _-_, _*_, _<_, _≤_}
+use Prim.Native.Nat.{ℕ, zero, suc, _+_, _-_, _<_}
 use native.Mathlib.Omega.{arith}
 use lib.Dec.{eqb}
 use lib.ListN.{length, getD}
@@ -13,9 +13,8 @@ use Rattle.std.proofs.shelf.Sums.{sumBy-push}
 use Rattle.std.proofs.shelf.Tests.{ne-eqb, cond-false, and-left, and-right}
 use Rattle.scale.specs.Shares.{Rule, sharedBy, sharesOf}
 use Rattle.book.specs.declared.contract.Contract.{Contract}
-use Rattle.book.specs.Cuts.{Claim, noClaim, claimOf, weight, classWeights, classCut, effectiveAt}
-use Rattle.ledger.specs.States.{blank}
-use Rattle.ledger.specs.Calls.{mapFrom, recut, standsFor, withEffective}
+use Rattle.book.specs.Cuts.{Claim, noClaim, claimOf, weight, classWeights, classCut, effectiveAt, mapFrom, recut, standsFor, withEffective}
+use Rattle.book.specs.Terms.{blank}
 
 -- more weights at the end change no share before them
 pub shared-longer : (run : ℕ → ℕ) (before : ℕ) (ws vs : List ℕ) (i : ℕ) → i < length ws →

@@ -2,31 +2,20 @@
 use mathlib.Core.Path.{_≡_}
 use mathlib.Core.Bool.{Bool, true, false, cond, _&&_}
 use mathlib.Core.List.{List}
-use Prim.Native.Nat.{ℕ, _+_, _-_, _*_, _<_, _≤_}
+use Prim.Native.Nat.{ℕ, _-_, _*_, _<_}
 use lib.Dec.{eqb}
 use lib.ListN.{length, getD}
-use Rattle.entry.specs.declared.source.Source.{Source}
 use Rattle.entry.specs.Kinds.{Kind, Cancels, joins, upTo}
+use Rattle.board.specs.Lanes.{lane}
+use Rattle.board.specs.Moves.{cell, share}
 use Rattle.scale.specs.Shares.{Rule, sharesOf}
 use Rattle.book.specs.declared.contract.Contract.{Contract}
 use Rattle.book.specs.States.{inForce}
 use Rattle.ledger.specs.States.{State, contractAt, rowAt}
 
--- the lane of an agent at a submarket, both from 1: one entry for each hour
-abbrev pub lane : ℕ → ℕ → ℕ
-lane agent submarket = (agent - 1) * 4 + (submarket - 1)
-
--- the value at an hour, from 0, of a lane
-abbrev pub cell : {V : Type 0} → Kind V → ℕ → List V → ℕ → ℕ → V
-cell k hours vs l hour = getD vs (l * hours + hour) (k .nothing)
-
 -- an agent's position at a submarket and hour, all from 1
 abbrev pub positionOf : {V : Type 0} → Kind V → State V → ℕ → ℕ → ℕ → V
 positionOf k s agent submarket hour = cell k (s .sizes .hours) (s .board) (lane agent submarket) (hour - 1)
-
--- what a quantity puts on a lane where it goes from one lane to another: its entry on the first, the opposite on the second
-abbrev pub share : {V : Type 0} → Kind V → ℕ → ℕ → Source → ℕ → ℕ → V
-share k from to s q l = cond (eqb l from) (k .sold q s) (cond (eqb l to) (k .bought q s) (k .nothing))
 
 -- the lanes of a contract's seller and buyer
 abbrev pub sellerLane : Contract → ℕ

@@ -1,10 +1,9 @@
 -- What each changing call answers, and what it leaves: from one state of a month to the next.
 use mathlib.Core.Path.{_≡_}
-use mathlib.Core.Bool.{Bool, true, false, cond, _&&_}
+use mathlib.Core.Bool.{Bool, cond, _&&_}
 use mathlib.Core.List.{List, [], _∷_, _++_, map}
 use Prim.Native.Nat.{ℕ, suc, _+_, _-_, _*_}
-use lib.Dec.{eqb}
-use lib.ListN.{length, getD, set, take, drop, replicate}
+use lib.ListN.{length, set, take, drop, replicate}
 use Rattle.std.specs.declared.option.Option.{Option}
 use Rattle.std.specs.declared.option.Option.the-variants.{Some, None}
 use Rattle.scale.specs.Refusals.{Refusal}
@@ -15,9 +14,8 @@ use Rattle.book.specs.declared.contract.Contract.{Contract}
 use Rattle.book.specs.declared.contract.Offer.{Offer}
 use Rattle.book.specs.declared.contract.State as state
 use Rattle.book.specs.declared.contract.State.the-variants.{InForce, Ended}
-use Rattle.book.specs.Cuts.{claimOf, effectiveAt}
+use Rattle.book.specs.Cuts.{recut, withEffective}
 use Rattle.book.specs.Lookup.{placeOf}
-use Rattle.book.specs.States.{inForce}
 use Rattle.book.specs.Terms.{Offers}
 use Rattle.ledger.specs.States.{State, contracts, contractAt, shortfallOf}
 use Rattle.ledger.specs.Boards.{Revised}
@@ -27,24 +25,8 @@ use Rattle.ledger.specs.Checks.{offerRefusal, confirmRefusal, endRefusal, tell
 abbrev pub rounding : Rule
 rounding = downTo
 
--- f at each element and its index, counting from j
-abbrev pub mapFrom : {X Y : Type 0} → (ℕ → X → Y) → ℕ → List X → List Y
-mapFrom f j [] = []
-mapFrom f j (x ∷ xs) = f j x ∷ mapFrom f (suc j) xs
-
 abbrev pub withState : state.State → Contract → Contract
 withState st c = record { terms = c .terms; effective = c .effective; state = st }
-
-abbrev pub withEffective : ℕ → Contract → Contract
-withEffective e c = record { terms = c .terms; effective = e; state = c .state }
-
-abbrev pub standsFor : ℕ → Contract → Bool
-standsFor seller c = inForce c && eqb (c .terms .seller) seller
-
--- a seller's contracts in force, each with the effective amount that the cut rule gives it; the others as they are
-abbrev pub recut : Rule → ℕ → ℕ → List Contract → List Contract
-recut rule seller short cs =
-    mapFrom (λ i c. cond (standsFor seller c) (withEffective (effectiveAt rule short (map claimOf cs) i) c) c) 0 cs
 
 -- a row written at a place, which counts from 0
 abbrev pub putRow : ℕ → ℕ → List ℕ → List ℕ → List ℕ

@@ -1,15 +1,12 @@
 -- The checks of each call, in their order: the first that fails refuses the call.
-use mathlib.Core.Bool.{Bool, true, false, cond}
 use mathlib.Core.List.{List, [], _∷_}
 use Prim.Native.Nat.{ℕ, _+_, _-_, _*_}
 use lib.Dec.{eqb, leb, ltb}
-use lib.ListN.{length, getD, replicate}
+use lib.ListN.{length}
 use Rattle.std.specs.declared.option.Option.{Option}
 use Rattle.std.specs.declared.option.Option.the-variants.{Some, None}
 use Rattle.std.specs.Options.{isSome}
 use Rattle.scale.specs.Refusals.{Refusal, refusal, unless, firstOf}
-use Rattle.scale.specs.Totals.{totalCheck}
-use Rattle.scale.specs.Weights.{clipped}
 use Rattle.book.specs.declared.contract.Contract.{Contract}
 use Rattle.book.specs.declared.contract.Event.{Event}
 use Rattle.book.specs.declared.contract.Event.the-variants.{Confirmation, Ending}
@@ -20,8 +17,9 @@ use Rattle.book.specs.Lookup.{placeOf}
 use Rattle.book.specs.Sizing.{sizeChecks}
 use Rattle.book.specs.Sound.{bookCheck, sellerTotal}
 use Rattle.book.specs.States.{nextState, allowed, inForce}
+use Rattle.book.specs.Supply.{supplyCheck}
 use Rattle.book.specs.Terms.{offerChecks}
-use Rattle.ledger.specs.States.{State, contracts, contractAt, blank}
+use Rattle.ledger.specs.States.{State, contracts, contractAt}
 
 -- the lengths of the four memories, exact; the first wrong one is told
 abbrev pub lengthCheck : ℕ → ℕ → ℕ → ℕ → ℕ → ℕ → ℕ → Option Refusal
@@ -70,18 +68,12 @@ module _ {V : Type 0} (s : State V) where
       ∷ unless (isSome (nextState (contractAt s (place - 1) .state) event)) 10 place
       ∷ [])
 
-  abbrev pub scaleCheck : Contract → List ℕ → Option Refusal
-  scaleCheck c weights = firstOf (
-      unless (eqb (length weights) (s .sizes .hours)) 11 0
-      ∷ totalCheck (clipped (c .terms .first) (c .terms .last) weights)
-      ∷ [])
-
   abbrev pub confirmRefusal : ℕ → ℕ → List ℕ → Option Refusal
   confirmRefusal number agent weights = firstOf (
       admitted
       ∷ atNumber (placeOf number (contracts s)) (λ place. firstOf (
       eventCheck Confirmation agent place
-      ∷ scaleCheck (contractAt s (place - 1)) weights
+      ∷ supplyCheck (s .sizes .hours) (contractAt s (place - 1) .terms) weights
       ∷ unless (leb (sellerTotal (contractAt s (place - 1) .terms .seller) (contracts s) + contractAt s (place - 1) .terms .amount) mostTotal) 15 place
       ∷ []))
       ∷ [])

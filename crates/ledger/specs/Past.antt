@@ -1,11 +1,10 @@
 -- The past of a month, and the ledger of a past, which reads no memory.
-use mathlib.Core.Path.{_≡_}
-use mathlib.Core.Bool.{Bool, true, false, cond, _&&_}
+use mathlib.Core.Bool.{Bool, cond}
 use mathlib.Core.List.{List, [], _∷_, _++_, map}
-use Prim.Native.Nat.{ℕ, zero, suc, _+_, _-_, _*_}
+use Prim.Native.Nat.{ℕ, zero, suc}
 use lib.Dec.{eqb}
 use lib.ListN.{length, getD}
-use Rattle.scale.specs.Shares.{Rule, sharesOf}
+use Rattle.scale.specs.Shares.{sharesOf}
 use Rattle.scale.specs.Weights.{clipped, weightAt}
 use Rattle.entry.specs.declared.source.Source.{Source}
 use Rattle.entry.specs.declared.source.Source.the-variants.{Conventional, Incentivised}

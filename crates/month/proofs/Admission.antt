@@ -7,9 +7,10 @@ use lib.ListN.{length, take}
 use Rattle.std.specs.declared.option.Option.{Option}
 use Rattle.std.specs.declared.option.Option.the-variants.{Some, None}
 use Rattle.std.specs.declared.result.Result.{Result}
+use Rattle.std.specs.declared.result.Result.the-variants.{Ok, Err}
+use Rattle.std.specs.Results.{Cases}
 use Rattle.std.specs.Vec.{made}
 use Rattle.std.proofs.shelf.Lists.{length-map}
-use Rattle.std.proofs.shelf.Results.{made-weaker}
 use Rattle.scale.specs.declared.fault.Fault.{Fault}
 use Rattle.scale.specs.Refusals.{refusalOf, firstOf}
 use Rattle.entry.specs.declared.joining.Joining as joining
@@ -21,6 +22,11 @@ use Rattle.ledger.specs.States.{State, contracts}
 use Rattle.month.specs.declared.phase.Month.{Month}
 use Rattle.month.specs.Months.{stateOf, Admitted}
 use Rattle.month.proofs.Checked.{first-none, long}
+
+-- what an answer holds where it is no refusal
+pub made-of : {X Y : Type 0} (r : Result X Y) (P Q : X → Type 0) (R : Y → Type 0) → ((x : X) → P x → Q x) → Cases r P R → made r Q
+made-of (Ok x) P Q R so p = so x p
+made-of (Err y) P Q R so p = tt
 
 -- a part from the start, as the code takes it
 pub from-start : {X : Type 0} (n : ℕ) (xs : List X) → take (n - 0) xs ≡ take n xs

@@ -5,10 +5,13 @@ use mathlib.Core.List.{List}
 use Prim.Native.Nat.{ℕ, _+_, _-_, _*_}
 use lib.Dec.{eqb}
 use Rattle.std.specs.shelf.Lists.{sumBy}
+use Rattle.entry.specs.Kinds.{Kind}
 use Rattle.book.specs.declared.contract.Contract.{Contract}
 use Rattle.book.specs.declared.sizes.Sizes.{Sizes}
 use Rattle.book.specs.States.{inForce}
-use Rattle.ledger.specs.Boards.{lane}
+use Rattle.board.specs.Lanes.{lane}
+use Rattle.ledger.specs.Lives.{Lived}
+use Rattle.ledger.specs.Past.{Event}
 use Rattle.ledger.specs.States.{State, contracts}
 use Rattle.month.specs.Line.{certificateLine}
 
@@ -33,3 +36,7 @@ bought agent cs = sumBy (boughtIn agent) cs
 -- the certificate line of an agent, from the month's contracts
 abbrev pub certified : {V : Type 0} → State V → ℕ → List ℕ
 certified s agent = certificateLine agent (sold agent (contracts s)) (bought agent (contracts s))
+
+-- P of the past of every life of a month with these sizes and this board
+abbrev pub InEveryLife : {V : Type 0} → Kind V → Sizes → List V → (List Event → Type 0) → Type 0
+InEveryLife {V} k sizes board P = (past : List Event) (s : State V) → Lived k past s → s .sizes ≡ sizes → s .board ≡ board → P past

@@ -8,6 +8,7 @@ pub mod closing;
 mod admission;
 pub mod opening;
 pub mod offering;
+pub mod positions;
 pub mod questions;
 pub mod sizing;
 

@@ -3,4 +3,3 @@ pub mod Weights
 pub mod Totals
 pub mod Shares
 pub mod Fairness
-pub mod Figures

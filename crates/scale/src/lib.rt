@@ -2,7 +2,6 @@
 pub mod clip;
 pub mod even;
 pub mod fault;
-pub mod figures;
 pub mod row;
 pub mod share;
 #[cfg(test)]

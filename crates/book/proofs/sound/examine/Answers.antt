@@ -11,7 +11,8 @@ use Rattle.scale.specs.Refusals.{firstOf}
 use Rattle.book.specs.Limits.{mostTotal}
 use Rattle.book.specs.Sound.{placeChecks, soundPlace}
 use Rattle.book.specs.Terms.{blank}
-use Rattle.book.proofs.Checking.{passes, place-is, place-passes, place-fails, rest-more, row-here, still-moderate, sound-book, total-more}
+use Rattle.book.proofs.Checking.{fails, passes, place-is, place-passes, place-fails, rest-more, row-here, still-moderate, sound-book, total-more}
+use Rattle.book.proofs.Passing.{refused-unsound}
 use Rattle.book.proofs.sound.examine.Needs as need
 use Rattle.book.proofs.sound.examine.Needs.{then-not-sound-alone·by·then-not-sound-alone, then-not-sound-alone·by·else-not-sound-alone·then-not-tally}
 
@@ -43,7 +44,7 @@ returns-then-not-sound-alone c =
           sym (place-is z taken rows i one _ _ row total) ∙ and-right _ _ (sym (w .if-not-tally .ensures tt .within))
     ] in
     let some = passes _ 2 0 (placeChecks z taken rows 0 taken) (sym (c .if-not-all-moderate .ensures tt)) ∙ sym (c .loop-i .inv .1) ∙ place-fails z taken rows i blank lt unsound in
-    record { refused = sym some; sound = tt }
+    record { refused = sym some; sound = refused-unsound z taken rows _ _ some }
 
 pub loop-i-again : need.loop-i-again
 loop-i-again c =
@@ -74,3 +75,11 @@ returns c =
     let end = at-drop-all (λ cs. firstOf (placeChecks z taken rows (c .loop-i .i) cs)) taken _ (c .loop-i-test .left) in
     let none = passes _ 2 0 (placeChecks z taken rows 0 taken) (sym (c .if-not-all-moderate .ensures tt)) ∙ sym (c .loop-i .inv .1) ∙ end in
     record { refused = sym none; sound = sound-book z taken rows _ none }
+
+pub returns-then-not-all-moderate : need.returns-then-not-all-moderate
+returns-then-not-all-moderate c =
+    let z = c .args .sizes .now in
+    let taken = c .args .taken .now in
+    let rows = c .args .rows .now in
+    let some = fails _ 2 0 (placeChecks z taken rows 0 taken) (sym (c .if-not-all-moderate .ensures tt)) in
+    record { refused = sym some; sound = refused-unsound z taken rows _ _ some }

@@ -1,8 +1,7 @@
 use mathlib.Core.Path.{_≡_, _∙_}
 use borrow.Author.Needs.{needs}
 use Rattle.std.proofs.shelf.Lists.{length-map}
-use Rattle.std.proofs.shelf.Results.{made-weaker}
-use Rattle.month.proofs.Admission.{book-decides, admits}
+use Rattle.month.proofs.Admission.{book-decides, admits, made-of}
 use Rattle.month.proofs.phase.Month.admit.Needs as need
 
 pub returns-in-Break-check-lengths : need.returns-in-Break-check-lengths
@@ -15,5 +14,5 @@ returns g c =
     let n = c .in-Continue-check-lengths .ensures tt in
     record {
       refused = c .examine .ensures .refused ∙ book-decides j (a .self .now) (a .places .now) (a .rows .now) (a .shortfalls .now) (a .board .now) n;
-      sound = made-weaker (c .examine .result) _ _
+      sound = made-of (c .examine .result) _ _ _
         (λ _ sound. admits j (a .self .now) (a .places .now) (a .rows .now) (a .shortfalls .now) (a .board .now) n sound) (c .examine .ensures .sound) }

@@ -1,5 +1,5 @@
 use mathlib.Core.Path.{refl}
-use Rattle.scale.proofs.figures.figures_hold.Needs as need
+use Rattle.book.proofs.figures.figures_hold.Needs as need
 
 pub returns : need.returns
 returns c = refl
