@@ -1,1 +1,4 @@
 pub mod Staged
+pub mod Positions
+pub mod Opens
+pub mod Replies

@@ -1,2 +1,5 @@
 pub mod Held
 pub mod Turns
+pub mod Questions
+pub mod Opening
+pub mod Closing

@@ -3,8 +3,10 @@ ghost use Prim.Native.Nat.{_≤_};
 use crate::stage::Stage;
 use book::contract::Contract;
 
+pub mod answering;
 pub mod calls;
 pub mod opening;
+pub mod questions;
 
 // How large a month the memory is for.
 pub(crate) const AGENTS: usize = 4;

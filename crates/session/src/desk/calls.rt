@@ -27,7 +27,7 @@ pub(crate) const OUT_OF_TURN: Fault = Fault {
 };
 
 // Puts back what was taken out.
-fn put_back(stage: &mut Stage, next: Stage)
+pub(super) fn put_back(stage: &mut Stage, next: Stage)
     requires { ⌜ now stage ≡ Stage.Idle ⌝ }
     ensures { λ _. ⌜ now (stage .exit) ≡ next ⌝ }
 {
