@@ -5,6 +5,7 @@ pub mod cuts;
 pub mod figures;
 pub mod limit;
 pub mod lookup;
+pub mod room;
 pub mod sizes;
 pub mod sound;
 pub mod states;

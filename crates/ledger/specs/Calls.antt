@@ -28,6 +28,13 @@ rounding = downTo
 abbrev pub withState : state.State → Contract → Contract
 withState st c = record { terms = c .terms; effective = c .effective; state = st }
 
+-- a contract as it enters into force, and as it ends: with nothing left of its amount
+abbrev pub enforced : Contract → Contract
+enforced c = withState InForce c
+
+abbrev pub ended : Contract → Contract
+ended c = withEffective 0 (withState Ended c)
+
 -- a row written at a place, which counts from 0
 abbrev pub putRow : ℕ → ℕ → List ℕ → List ℕ → List ℕ
 putRow hours i row rows = take (i * hours) rows ++ (row ++ drop (i * hours + hours) rows)
@@ -65,7 +72,7 @@ pub record Enforced {V : Type 0} (k : Kind V) (number : ℕ) (weights : List ℕ
   pub rows : t .rows ≡ putRow (s .sizes .hours) index
       (sharesOf rounding (contractAt s index .terms .amount) (clipped (contractAt s index .terms .first) (contractAt s index .terms .last) weights)) (s .rows)
   pub shortfalls : t .shortfalls ≡ s .shortfalls
-  pub settled : Resettled k (contractAt s index .terms .seller) (set (contracts s) index (withState InForce (contractAt s index))) s t
+  pub settled : Resettled k (contractAt s index .terms .seller) (set (contracts s) index (enforced (contractAt s index))) s t
 
 -- an accepted ending ends the contract, and leaves nothing of its amount
 pub record Finished {V : Type 0} (k : Kind V) (number : ℕ) (s t : State V) : Type 0 where
@@ -73,7 +80,7 @@ pub record Finished {V : Type 0} (k : Kind V) (number : ℕ) (s t : State V) : T
   pub found : placeOf number (contracts s) ≡ Some (index + 1)
   pub rows : t .rows ≡ s .rows
   pub shortfalls : t .shortfalls ≡ s .shortfalls
-  pub settled : Resettled k (contractAt s index .terms .seller) (set (contracts s) index (withEffective 0 (withState Ended (contractAt s index)))) s t
+  pub settled : Resettled k (contractAt s index .terms .seller) (set (contracts s) index (ended (contractAt s index))) s t
 
 -- an accepted telling replaces the agent's shortfall
 pub record Noted {V : Type 0} (k : Kind V) (agent kwh : ℕ) (s t : State V) : Type 0 where

@@ -1,3 +1,4 @@
 pub mod Months
 pub mod Line
 pub mod Questions
+pub mod Settling

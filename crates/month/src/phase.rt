@@ -6,11 +6,15 @@ use std::marker::PhantomData;
 pub mod certifying;
 pub mod closing;
 mod admission;
+pub mod ending;
+mod events;
 pub mod opening;
 pub mod offering;
 pub mod positions;
 pub mod questions;
 pub mod sizing;
+mod settling;
+pub mod telling;
 
 // An open month takes offers, confirmations, endings and shortfalls.
 pub struct Open {}

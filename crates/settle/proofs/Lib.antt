@@ -2,3 +2,4 @@ pub mod Following
 pub mod Settling
 pub mod Between
 pub mod Rows
+pub mod Recutting

@@ -1,11 +1,14 @@
 // The board follows the book: what contracts no longer deliver is taken off, and what they now deliver is added.
 ghost use mathlib.Core.Path.{_≡_};
-ghost use Prim.Native.Nat.{_≤_};
-ghost use lib.ListN.{length};
+ghost use Prim.Native.Nat.{_<_, _≤_};
+ghost use lib.ListN.{length, set};
 ghost use Rattle.std.specs.shelf.Lists.{sum};
 ghost use Rattle.scale.specs.Shares.{sharesOf};
 ghost use Rattle.scale.specs.Totals.{limit};
 ghost use Rattle.entry.specs.Kinds.{meaning, values};
+ghost use Rattle.book.specs.Cuts.{recut as recutBy};
+ghost use Rattle.book.specs.Limits.{mostPlaces, mostTotal};
+ghost use Rattle.book.specs.Sound.{sellerTotal};
 ghost use Rattle.ledger.specs.Boards.{changes, puts, stays as unmoved, takesOff, AllCancel, Revised};
 ghost use Rattle.ledger.specs.Calls.{rounding};
 ghost use Rattle.settle.specs.Following.{dealOf, BothCancel, Joined, Movable};
@@ -17,7 +20,10 @@ mod tests;
 use board::add;
 use board::deal::Deal;
 use board::take_off;
+use book::contract::BLANK;
 use book::contract::Contract;
+use book::contract::MOST_PLACES;
+use book::cuts::recut;
 use book::sizes::Sizes;
 use entry::joining::Joining;
 use entry::reversible::Reversible;
@@ -142,4 +148,75 @@ pub fn follow<E: Reversible>(
 {
     revise(sizes, taken, after, rows, board);
     taken.copy_from_slice(after);
+}
+
+// Sets a seller's effective amounts in the contracts that an event leaves, and lets board and places follow them.
+pub fn resettle<E: Reversible>(
+    sizes: &Sizes,
+    taken: &mut [Contract],
+    after: &mut [Contract],
+    seller: u16,
+    shortfall: u64,
+    rows: &[u32],
+    board: &mut [E],
+)
+    requires ready { ⌜ Ready (now sizes) (now taken) (now after) (now rows) (length (now board)) ⌝ }
+    requires places { ⌜ length (now after) ≤ mostPlaces ⌝ }
+    requires moderate { ⌜ sellerTotal seller (now after) ≤ mostTotal ⌝ }
+    ensures taken { λ _. ⌜ now (taken .exit) ≡ recutBy rounding seller shortfall (now (after .entry)) ⌝ }
+    ensures board { λ _. ⌜ Revised (meaning E·Joining E·Reversible) rounding
+        (booked (now (sizes .entry)) (now (taken .entry)) (now (rows .entry)) (values E·Joining (now (board .entry))))
+        (booked (now (sizes .entry)) (now (taken .exit)) (now (rows .entry)) (values E·Joining (now (board .exit)))) ⌝ }
+{
+    let _ = recut(after, seller, shortfall);
+    follow(sizes, taken, after, rows, board);
+}
+
+// Resettles a seller after its shortfall was told: no contract changes but by the cuts.
+pub fn settle_all<E: Reversible>(
+    sizes: &Sizes,
+    taken: &mut [Contract],
+    seller: u16,
+    shortfall: u64,
+    rows: &[u32],
+    board: &mut [E],
+)
+    requires ready { ⌜ Ready (now sizes) (now taken) (now taken) (now rows) (length (now board)) ⌝ }
+    requires places { ⌜ length (now taken) ≤ mostPlaces ⌝ }
+    requires moderate { ⌜ sellerTotal seller (now taken) ≤ mostTotal ⌝ }
+    ensures taken { λ _. ⌜ now (taken .exit) ≡ recutBy rounding seller shortfall (now (taken .entry)) ⌝ }
+    ensures board { λ _. ⌜ Revised (meaning E·Joining E·Reversible) rounding
+        (booked (now (sizes .entry)) (now (taken .entry)) (now (rows .entry)) (values E·Joining (now (board .entry))))
+        (booked (now (sizes .entry)) (now (taken .exit)) (now (rows .entry)) (values E·Joining (now (board .exit)))) ⌝ }
+{
+    let mut room = [BLANK; MOST_PLACES];
+    let after = &mut room[0..taken.len()];
+    after.copy_from_slice(taken);
+    resettle(sizes, taken, after, seller, shortfall, rows, board);
+}
+
+// Resettles the seller of a contract that was confirmed or ended: it stands changed at its place.
+pub fn settle_place<E: Reversible>(
+    sizes: &Sizes,
+    taken: &mut [Contract],
+    index: usize,
+    changed: Contract,
+    shortfall: u64,
+    rows: &[u32],
+    board: &mut [E],
+)
+    requires inside { ⌜ index < length (now taken) ⌝ }
+    requires ready { ⌜ Ready (now sizes) (now taken) (set (now taken) index changed) (now rows) (length (now board)) ⌝ }
+    requires places { ⌜ length (now taken) ≤ mostPlaces ⌝ }
+    requires moderate { ⌜ sellerTotal (changed .terms .seller) (set (now taken) index changed) ≤ mostTotal ⌝ }
+    ensures taken { λ _. ⌜ now (taken .exit) ≡ recutBy rounding (changed .terms .seller) shortfall (set (now (taken .entry)) index changed) ⌝ }
+    ensures board { λ _. ⌜ Revised (meaning E·Joining E·Reversible) rounding
+        (booked (now (sizes .entry)) (now (taken .entry)) (now (rows .entry)) (values E·Joining (now (board .entry))))
+        (booked (now (sizes .entry)) (now (taken .exit)) (now (rows .entry)) (values E·Joining (now (board .exit)))) ⌝ }
+{
+    let mut room = [BLANK; MOST_PLACES];
+    let after = &mut room[0..taken.len()];
+    after.copy_from_slice(taken);
+    after[index] = changed;
+    resettle(sizes, taken, after, changed.terms.seller, shortfall, rows, board);
 }

@@ -1,0 +1,59 @@
+-- The checks of a call by number, once the contract is found.
+use mathlib.Core.Path.{_≡_, refl, sym, ap, subst, _∙_}
+use mathlib.Core.List.{List, [], _∷_}
+use Prim.Native.Nat.{ℕ, _+_, _-_, _<_, _≤_}
+use native.Mathlib.Omega.{arith}
+use lib.ListN.{length, getD, take}
+use Rattle.std.specs.declared.option.Option.{Option}
+use Rattle.std.specs.declared.option.Option.the-variants.{Some, None}
+use Rattle.std.specs.Options.{isSome}
+use Rattle.std.proofs.shelf.Lists.{getD-take, length-take-le}
+use Rattle.scale.specs.Refusals.{Refusal, refusal, unless, firstOf}
+use Rattle.entry.specs.declared.joining.Joining as joining
+use Rattle.book.specs.declared.contract.Contract.{Contract}
+use Rattle.book.specs.declared.contract.Event.{Event}
+use Rattle.book.specs.declared.contract.Event.the-variants.{Confirmation, Ending}
+use Rattle.book.specs.Lookup.{FirstPlace, placeOf}
+use Rattle.book.specs.States.{allowed, nextState}
+use Rattle.book.specs.Terms.{blank}
+use Rattle.ledger.specs.Checks.{admitted, atNumber, endRefusal, eventCheck}
+use Rattle.ledger.specs.States.{State, contracts, contractAt}
+use Rattle.month.specs.declared.phase.Month.{Month}
+use Rattle.month.specs.Months.{stateOf}
+use Rattle.month.proofs.Admission.{from-start}
+use Rattle.month.proofs.Checked.{first-none}
+
+pub last-one : (x : Option Refusal) → firstOf (x ∷ []) ≡ x
+last-one None = refl
+last-one (Some r) = refl
+
+-- what next_state examines
+abbrev pub eventOf : Contract → Event → ℕ → ℕ → Option Refusal
+eventOf c event agent place = firstOf (unless (allowed event (c .terms) agent) 9 place ∷ unless (isSome (nextState (c .state) event)) 10 place ∷ [])
+
+module _ {E P : Type 0} (j : joining.Ghosts E) (m : Month P) (places : List Contract) (rows shortfalls : List ℕ) (board : List E) where
+  abbrev s : State (j .Value)
+  s = stateOf j m places rows shortfalls board
+
+  module _ (room : m .taken ≤ length places) (number place : ℕ) (first : FirstPlace number (take (m .taken - 0) places) place) where
+    pub inside : place - 1 < m .taken
+    inside = omega (arith, first .low, first .high, ap length (from-start (m .taken) places), length-take-le (m .taken) places room)
+
+    pub place-up : place ≡ (place - 1) + 1
+    place-up = omega (arith, first .low)
+
+    -- the contract that the code read is the month's at that place
+    pub at : getD places (place - 1) blank ≡ contractAt s (place - 1)
+    at = sym (getD-take (m .taken) places (place - 1) blank inside)
+
+    pub event-at : (event : Event) (agent : ℕ) → eventOf (getD places (place - 1) blank) event agent place ≡ eventCheck s event agent place
+    event-at event agent = ap (λ (c : Contract). eventOf c event agent place) at
+
+  module _ (number place : ℕ) (is : Some place ≡ placeOf number (take (m .taken - 0) places)) where
+    pub found : placeOf number (contracts s) ≡ Some place
+    found = sym (is ∙ ap (placeOf number) (from-start (m .taken) places))
+
+  -- the number decides: absent, or what is checked at its place
+  pub decided : (number : ℕ) (checks : ℕ → Option Refusal) (answer : Option ℕ) → None ≡ admitted s → placeOf number (contracts s) ≡ answer
+    → firstOf (admitted s ∷ atNumber (placeOf number (contracts s)) checks ∷ []) ≡ atNumber answer checks
+  decided number checks answer passes e = first-none (admitted s) _ (sym passes) ∙ last-one _ ∙ ap (λ (o : Option ℕ). atNumber o checks) e
