@@ -32,12 +32,12 @@ use Rattle.session.specs.declared.stage.Stage.the-variants.{Idle, Open, Closed
 use Rattle.session.specs.Closing.{Shut, withStage}
 use Rattle.session.specs.Held.{Held, heldAt, heldOf, stateOn}
 use Rattle.session.specs.Questions.{PositionAsked, CertificateAsked}
-use Rattle.session.specs.Turns.{Telling, Doing, Acked, Asked, Closes, Turned, DeskTurned, ack, unfit, Told, Replied}
+use Rattle.session.specs.Turns.{Showing, Doing, Acked, Asked, Closes, Turned, DeskTurned, ack, unfit, Told, Replied}
 
 nothing : {X : Type 0} {r : Refusal} → _≡_ {A = Option Refusal} None (Some r) → X
 nothing e = absurd (let z : _≡_ {A = ℕ} 0 1 = cc in omega arith)
 
-module _ {V : Type 0} (k : Kind V) (tell : Telling V) (c : Command) where
+module _ {V : Type 0} (k : Kind V) (tell : Showing V) (c : Command) where
   -- a call that is acknowledged
   pub acked : (does : Held V → Option Refusal → Held V → Type 0) → ((h t : Held V) (answer : Option Refusal) → does h answer t → Turned k tell c h (ack answer) t)
     → (before after : Option (Held V)) (answer : Option Refusal) → Doing does before answer after → DeskTurned k tell c before (ack answer) after
@@ -48,7 +48,7 @@ module _ {V : Type 0} (k : Kind V) (tell : Telling V) (c : Command) where
   unfitted so None = (refl, refl)
   unfitted so (Some h) = (h, refl, so h)
 
-module _ {V : Type 0} (k : Kind V) (tell : Telling V) where
+module _ {V : Type 0} (k : Kind V) (tell : Showing V) where
   -- a line of another letter, which is out of turn once there is a month
   pub other : (c : Command) → ((a b d e f g h i x : ℕ) → c ≡ Offer a b d e f g h i x → ⊥) → ((a m h : ℕ) → c ≡ Position a m h → ⊥) → (c ≡ Close → ⊥) → ((a : ℕ) → c ≡ Certificate a → ⊥)
     → (held : Option (Held V)) → DeskTurned k tell c held (ack (Some unfit)) held

@@ -1,5 +1,6 @@
 -- Closing the month of a session: its numbers and its memory stay.
 use mathlib.Core.Path.{_≡_}
+use mathlib.Core.Bool.{Bool, true, false}
 use Rattle.std.specs.declared.option.Option.{Option}
 use Rattle.std.specs.declared.option.Option.the-variants.{None}
 use Rattle.scale.specs.Refusals.{Refusal}
@@ -17,3 +18,8 @@ abbrev pub Shut : Stage → Desk → Option Refusal → Desk → Type 0
 Shut Idle d answer t = Refused d answer t
 Shut (Open m) d answer t = (answer ≡ None) × ((n : Month closed.Closed) × (n .sizes ≡ m .sizes) × (n .taken ≡ m .taken) × (t ≡ withStage (Closed n) d))
 Shut (Closed m) d answer t = Refused d answer t
+
+abbrev pub isIdle : Stage → Bool
+isIdle Idle = true
+isIdle (Open m) = false
+isIdle (Closed m) = false

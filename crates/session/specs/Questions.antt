@@ -20,13 +20,13 @@ use Rattle.month.specs.Questions.{certified}
 use Rattle.page.specs.Page.{Fronted}
 use Rattle.session.specs.declared.shown.Shown as shown
 use Rattle.session.specs.Held.{Held}
-use Rattle.session.specs.Turns.{Telling, Told, unfit}
+use Rattle.session.specs.Turns.{Showing, Told, unfit}
 
 -- how a kind of entry tells positions
-abbrev pub tellingOf : {E : Type 0} (j : joining.Ghosts E) → shown.Ghosts E → Telling (j .Value)
-tellingOf {E} j s = record { Shows = λ v reply. (e : E) × (j .value e ≡ v) × (reply ≡ s .shows e); tells = s .tells }
+abbrev pub showingOf : {E : Type 0} (j : joining.Ghosts E) → shown.Ghosts E → Showing (j .Value)
+showingOf {E} j s = record { Shows = λ v reply. (e : E) × (j .value e ≡ v) × (reply ≡ s .shows e); tells = s .tells }
 
-abbrev pub PositionAsked : {V : Type 0} → Kind V → Telling V → ℕ → ℕ → ℕ → Option (Held V) → Result Reply Fault → Type 0
+abbrev pub PositionAsked : {V : Type 0} → Kind V → Showing V → ℕ → ℕ → ℕ → Option (Held V) → Result Reply Fault → Type 0
 PositionAsked k tell agent submarket hour None r = refusalOf r ≡ Some unfit
 PositionAsked k tell agent submarket hour (Some h) r =
     (refusalOf r ≡ positionRefusal (h .state .sizes) (length (h .state .board)) agent submarket hour) × made r (Told k tell (h .state) agent submarket hour)

@@ -53,7 +53,7 @@ abbrev pub Closes : {V : Type 0} → Held V → Option Refusal → Held V → Ty
 Closes h answer t = When (h .closed) (Refused h answer t) ((answer ≡ None) × (t ≡ record { closed = true; state = h .state }))
 
 -- how positions of one kind of entry are told: by the entry's numbers, and by what the ledger makes of a past
-pub record Telling (V : Type 0) : Type 1 where
+pub record Showing (V : Type 0) : Type 1 where
   pub Shows : V → Reply → Type 0
   pub tells : Ledger → ℕ → ℕ → ℕ → Reply
 
@@ -67,7 +67,7 @@ module _ {V : Type 0} (k : Kind V) where
   abbrev pub Changes : Call → (Option Refusal → State V → State V → Type 0) → Held V → Option Refusal → Held V → Type 0
   Changes call does h answer t = When (h .closed) (Refused h answer t) (Called call does (h .state) answer (t .state) × (t .closed ≡ false))
 
-  module _ (tell : Telling V) where
+  module _ (tell : Showing V) where
     -- the reply shows what stands on the board, and in every life it is what the ledger tells
     pub record Told (s : State V) (agent submarket hour : ℕ) (reply : Reply) : Type 0 where
       pub shown : tell .Shows (positionOf k s agent submarket hour) reply
@@ -86,7 +86,7 @@ abbrev pub Acked : {V : Type 0} → (Held V → Option Refusal → Held V → Ty
 Acked does h line t = (answer : Option Refusal) × (line ≡ ack answer) × does h answer t
 
 -- from h, a command leads to t and line is replied
-abbrev pub Turned : {V : Type 0} → Kind V → Telling V → Command → Held V → List ℕ → Held V → Type 0
+abbrev pub Turned : {V : Type 0} → Kind V → Showing V → Command → Held V → List ℕ → Held V → Type 0
 Turned k tell (Open agents hours places kind) h line t = Acked Refused h line t
 Turned k tell (Offer number seller buyer submarket class source first last amount) h line t =
     let o : offer.Offer = record { number = number; seller = seller; buyer = buyer; submarket = submarket; class = class; source = source; first = first; last = last; amount = amount } in
@@ -99,7 +99,7 @@ Turned k tell Close h line t = Acked Closes h line t
 Turned k tell (Certificate agent) h line t = Certified k h agent line × (t ≡ h)
 
 -- the same where there may be no month: then a line other than M is out of turn
-abbrev pub DeskTurned : {V : Type 0} → Kind V → Telling V → Command → Option (Held V) → List ℕ → Option (Held V) → Type 0
+abbrev pub DeskTurned : {V : Type 0} → Kind V → Showing V → Command → Option (Held V) → List ℕ → Option (Held V) → Type 0
 DeskTurned k tell c None line after = (line ≡ ack (Some unfit)) × (after ≡ None)
 DeskTurned k tell c (Some h) line after = (t : Held _) × (after ≡ Some t) × Turned k tell c h line t
 

@@ -5,7 +5,7 @@ ghost use Rattle.scale.specs.Refusals.{refusalOf};
 ghost use Rattle.entry.specs.Kinds.{meaning};
 ghost use Rattle.page.specs.Page.{Fronted};
 ghost use Rattle.session.specs.Held.{heldOf};
-ghost use Rattle.session.specs.Questions.{tellingOf};
+ghost use Rattle.session.specs.Questions.{showingOf};
 ghost use Rattle.session.specs.Turns.{ack, Replied, DeskTurned};
 use super::Desk;
 use super::ENTRIES;
@@ -32,7 +32,7 @@ pub(crate) fn put_ack(page: &mut [u8; ROOM], answer: Result<(), Fault>) -> usize
 impl Desk {
     // Answers a command other than one that opens: for every kind of entry, one text.
     pub(crate) fn answer<E: Shown>(&mut self, board: &mut [E; ENTRIES], command: Command, page: &mut [u8; ROOM]) -> usize
-        ensures does { λ n. ⌜ Replied (λ line. DeskTurned (meaning E·Joining E·Reversible) (tellingOf E·Joining E·Shown) command
+        ensures does { λ n. ⌜ Replied (λ line. DeskTurned (meaning E·Joining E·Reversible) (showingOf E·Joining E·Shown) command
             (heldOf E·Joining (now (self .entry)) (now (board .entry))) line (heldOf E·Joining (now (self .exit)) (now (board .exit))))
             (now (page .entry)) (now (page .exit)) n ⌝ }
         ensures within { λ n. ⌜ n ≤ 64 ⌝ }

@@ -11,18 +11,23 @@ ghost use Rattle.ledger.specs.Calls.{Opened};
 ghost use Rattle.ledger.specs.Lives.{Begins};
 ghost use Rattle.session.specs.Held.{heldOf, lentTo};
 ghost use Rattle.session.specs.Opening.{memoryCheck, openingRefusal, Begun, LongAs};
-ghost use Rattle.session.specs.Closing.{Shut};
+ghost use Rattle.session.specs.Closing.{Shut, isIdle};
 use super::AGENTS;
 use super::Desk;
 use super::HOURS;
 use super::Lengths;
 use super::PLACES;
+use super::ROWS;
 use super::calls::OUT_OF_TURN;
 use super::calls::put_back;
 use crate::stage::Stage;
+use book::contract::Class;
 use book::contract::Contract;
+use book::contract::State;
+use book::contract::Terms;
 use book::sizes::Sizes;
 use entry::reversible::Reversible;
+use entry::source::Source;
 use month::phase::Month;
 use month::phase::Open;
 use scale::fault::Fault;
@@ -75,7 +80,67 @@ fn open_on<E: Reversible>(agents: u16, hours: u16, size: u16, lengths: Lengths, 
     Month::open(agents, hours, size, &places[..n], &rows[..m], &mut shortfalls[..a], &mut board[..b])
 }
 
+// What stands at a place before a contract does.
+const BLANK: Contract = Contract {
+    terms: Terms {
+        number: 0,
+        seller: 0,
+        buyer: 0,
+        submarket: 0,
+        class: Class::Plant,
+        source: Source::Conventional,
+        first: 0,
+        last: 0,
+        amount: 0,
+    },
+    effective: 0,
+    state: State::Ended,
+};
+
 impl Desk {
+    // No month, and memory that means nothing yet.
+    pub(crate) fn new() -> Desk
+        ensures { λ r. ⌜ r .stage ≡ Stage.Idle ⌝ }
+    {
+        Desk {
+            stage: Stage::Idle,
+            lengths: Lengths {
+                places: 0,
+                rows: 0,
+                shortfalls: 0,
+                entries: 0,
+            },
+            places: [BLANK; PLACES],
+            rows: [0; ROWS],
+            shortfalls: [0; AGENTS],
+        }
+    }
+
+    pub(crate) fn is_idle(&self) -> bool
+        ensures { λ r. ⌜ r ≡ isIdle (now (self .entry) .stage) ⌝ }
+    {
+        match &self.stage {
+            Stage::Idle => true,
+            _ => false,
+        }
+    }
+
+    // Puts the month away for good.
+    pub(crate) fn discard(self) {
+        let Desk {
+            stage,
+            lengths: _,
+            places: _,
+            rows: _,
+            shortfalls: _,
+        } = self;
+        match stage {
+            Stage::Idle => {}
+            Stage::Open(month) => month.discard(),
+            Stage::Closed(month) => month.discard(),
+        }
+    }
+
     // Opens a month on the memory and a board, where there is none yet.
     pub(crate) fn open<E: Reversible>(&mut self, board: &mut [E], agents: u16, hours: u16, size: u16) -> Result<(), Fault>
         requires idle { ⌜ now self .stage ≡ Stage.Idle ⌝ }

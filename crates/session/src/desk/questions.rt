@@ -8,7 +8,7 @@ ghost use Rattle.ledger.specs.Checks.{certificateRefusal};
 ghost use Rattle.month.specs.Questions.{certified};
 ghost use Rattle.page.specs.Page.{Fronted};
 ghost use Rattle.session.specs.Held.{heldOf, lentTo};
-ghost use Rattle.session.specs.Questions.{tellingOf, PositionAsked, CertificateAsked};
+ghost use Rattle.session.specs.Questions.{showingOf, PositionAsked, CertificateAsked};
 use super::Desk;
 use super::ENTRIES;
 use super::Lengths;
@@ -46,7 +46,7 @@ fn certify_on<E: Joining>(month: &Month<Closed>, lengths: Lengths, places: &[Con
 impl Desk {
     // The reply that tells a position.
     pub(crate) fn position<E: Shown>(&self, board: &[E; ENTRIES], agent: u16, submarket: u16, hour: u16) -> Result<Reply, Fault>
-        ensures { λ r. ⌜ PositionAsked (meaning E·Joining E·Reversible) (tellingOf E·Joining E·Shown) agent submarket hour (heldOf E·Joining (now (self .entry)) (now (board .entry))) r ⌝ }
+        ensures { λ r. ⌜ PositionAsked (meaning E·Joining E·Reversible) (showingOf E·Joining E·Shown) agent submarket hour (heldOf E·Joining (now (self .entry)) (now (board .entry))) r ⌝ }
     {
         let n = self.lengths.entries;
         match &self.stage {

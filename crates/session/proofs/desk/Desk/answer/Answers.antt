@@ -10,7 +10,7 @@ use Rattle.book.specs.declared.contract.Offer as offer
 use Rattle.lines.specs.declared.command.Command.the-variants.{Offer, Close}
 use Rattle.lines.specs.Spoken.{spokenLine, refused}
 use Rattle.session.specs.Held.{heldOf}
-use Rattle.session.specs.Questions.{tellingOf}
+use Rattle.session.specs.Questions.{showingOf}
 use Rattle.session.specs.Turns.{Changes, Closes, ack, unfit}
 use Rattle.std.specs.declared.option.Option.the-variants.{Some}
 use Rattle.session.proofs.Replies.{acked, other, located, unlocated, certified-on, uncertified, shut, as-read, as-read-on}
@@ -21,7 +21,7 @@ returns-in-Offer g c =
     let o : offer.Offer = record { number = c .in-Offer .number; seller = c .in-Offer .seller; buyer = c .in-Offer .buyer; submarket = c .in-Offer .submarket; class = c .in-Offer .class; source = c .in-Offer .source; first = c .in-Offer .first; last = c .in-Offer .last; amount = c .in-Offer .amount } in
     let j = g .E·Joining in
     let k = meaning j (g .E·Reversible) in
-    let tell = tellingOf j (g .E·Shown) in
+    let tell = showingOf j (g .E·Shown) in
     let before = heldOf j (c .args .self .now) (c .args .board .now) in
     let after = heldOf j (c .offer .last .self) (c .args .board .now) in
     let answer = refusalOf (c .offer .result) in
@@ -40,7 +40,7 @@ pub returns-in-Ok : need.returns-in-Ok
 returns-in-Ok g c =
     let j = g .E·Joining in
     let k = meaning j (g .E·Reversible) in
-    let tell = tellingOf j (g .E·Shown) in
+    let tell = showingOf j (g .E·Shown) in
     let held = heldOf j (c .args .self .now) (c .args .board .now) in
     let a = c .in-Position in
     record {
@@ -56,7 +56,7 @@ pub returns-in-Err : need.returns-in-Err
 returns-in-Err g c =
     let j = g .E·Joining in
     let k = meaning j (g .E·Reversible) in
-    let tell = tellingOf j (g .E·Shown) in
+    let tell = showingOf j (g .E·Shown) in
     let held = heldOf j (c .args .self .now) (c .args .board .now) in
     let a = c .in-Position in
     let f = c .in-Err .fault in
@@ -73,7 +73,7 @@ pub returns-in-Ok-certificate : need.returns-in-Ok-certificate
 returns-in-Ok-certificate g c =
     let j = g .E·Joining in
     let k = meaning j (g .E·Reversible) in
-    let tell = tellingOf j (g .E·Shown) in
+    let tell = showingOf j (g .E·Shown) in
     let held = heldOf j (c .args .self .now) (c .args .board .now) in
     let page = c .args .page .now in
     let after = c .certificate .last .page in
@@ -88,7 +88,7 @@ pub returns-in-Err-certificate : need.returns-in-Err-certificate
 returns-in-Err-certificate g c =
     let j = g .E·Joining in
     let k = meaning j (g .E·Reversible) in
-    let tell = tellingOf j (g .E·Shown) in
+    let tell = showingOf j (g .E·Shown) in
     let held = heldOf j (c .args .self .now) (c .args .board .now) in
     let f = c .in-Err-certificate .fault in
     let p = uncertified k tell (c .in-Certificate .agent) held (c .args .page .now) (c .certificate .last .page) f (c .in-Err-certificate .ensures tt) in
@@ -105,7 +105,7 @@ pub returns-in-Close : need.returns-in-Close
 returns-in-Close g c =
     let j = g .E·Joining in
     let k = meaning j (g .E·Reversible) in
-    let tell = tellingOf j (g .E·Shown) in
+    let tell = showingOf j (g .E·Shown) in
     let d = c .args .self .now in
     let board = c .args .board .now in
     let before = heldOf j d board in
@@ -129,7 +129,7 @@ returns-in-rest g c =
       does = record {
         line = ack (Some unfit);
         fronted = c .put-ack-in-rest .ensures .put;
-        holds = other (meaning j (g .E·Reversible)) (tellingOf j (g .E·Shown)) (c .args .command) (c .in-rest .not-Offer) (c .in-rest .not-Position) (c .in-rest .not-Close) (c .in-rest .not-Certificate) held;
+        holds = other (meaning j (g .E·Reversible)) (showingOf j (g .E·Shown)) (c .args .command) (c .in-rest .not-Offer) (c .in-rest .not-Position) (c .in-rest .not-Close) (c .in-rest .not-Certificate) held;
       };
       within = c .put-ack-in-rest .ensures .within;
     }
