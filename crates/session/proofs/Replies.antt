@@ -50,16 +50,16 @@ module _ {V : Type 0} (k : Kind V) (tell : Showing V) (c : Command) where
 
 module _ {V : Type 0} (k : Kind V) (tell : Showing V) where
   -- a line of another letter, which is out of turn once there is a month
-  pub other : (c : Command) → ((a b d e f g h i x : ℕ) → c ≡ Offer a b d e f g h i x → ⊥) → ((a m h : ℕ) → c ≡ Position a m h → ⊥) → (c ≡ Close → ⊥) → ((a : ℕ) → c ≡ Certificate a → ⊥)
+  pub other : (c : Command) → ((a b d e f g h i x : ℕ) → c ≡ Offer a b d e f g h i x → ⊥) → ((a b : ℕ) → c ≡ End a b → ⊥) → ((a b : ℕ) → c ≡ Tell a b → ⊥) → ((a m h : ℕ) → c ≡ Position a m h → ⊥) → (c ≡ Close → ⊥) → ((a : ℕ) → c ≡ Certificate a → ⊥)
     → (held : Option (Held V)) → DeskTurned k tell c held (ack (Some unfit)) held
-  other (command.Open a b d e) no-offer no-position no-close no-certificate held = unfitted k tell (command.Open a b d e) (λ h. (Some unfit, refl, (refl, refl))) held
-  other (Offer a b d e f g h i x) no-offer no-position no-close no-certificate held = absurd (no-offer a b d e f g h i x refl)
-  other (Confirm a b) no-offer no-position no-close no-certificate held = unfitted k tell (Confirm a b) (λ h. (Some unfit, refl, (refl, refl))) held
-  other (End a b) no-offer no-position no-close no-certificate held = unfitted k tell (End a b) (λ h. (Some unfit, refl, (refl, refl))) held
-  other (Tell a b) no-offer no-position no-close no-certificate held = unfitted k tell (Tell a b) (λ h. (Some unfit, refl, (refl, refl))) held
-  other (Position a m h) no-offer no-position no-close no-certificate held = absurd (no-position a m h refl)
-  other Close no-offer no-position no-close no-certificate held = absurd (no-close refl)
-  other (Certificate a) no-offer no-position no-close no-certificate held = absurd (no-certificate a refl)
+  other (command.Open a b d e) no-offer no-end no-tell no-position no-close no-certificate held = unfitted k tell (command.Open a b d e) (λ h. (Some unfit, refl, (refl, refl))) held
+  other (Offer a b d e f g h i x) no-offer no-end no-tell no-position no-close no-certificate held = absurd (no-offer a b d e f g h i x refl)
+  other (Confirm a b) no-offer no-end no-tell no-position no-close no-certificate held = unfitted k tell (Confirm a b) (λ h. (Some unfit, refl, (refl, refl))) held
+  other (End a b) no-offer no-end no-tell no-position no-close no-certificate held = absurd (no-end a b refl)
+  other (Tell a b) no-offer no-end no-tell no-position no-close no-certificate held = absurd (no-tell a b refl)
+  other (Position a m h) no-offer no-end no-tell no-position no-close no-certificate held = absurd (no-position a m h refl)
+  other Close no-offer no-end no-tell no-position no-close no-certificate held = absurd (no-close refl)
+  other (Certificate a) no-offer no-end no-tell no-position no-close no-certificate held = absurd (no-certificate a refl)
 
   -- a position that was told, and one that was refused
   pub located : (agent submarket hour : ℕ) (held : Option (Held V)) (y : Reply) → PositionAsked k tell agent submarket hour held (Ok y)

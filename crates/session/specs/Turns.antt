@@ -11,10 +11,10 @@ use Rattle.scale.specs.Refusals.{Refusal, refusal}
 use Rattle.entry.specs.Kinds.{Kind}
 use Rattle.book.specs.declared.contract.Offer as offer
 use Rattle.ledger.specs.Boards.{positionOf}
-use Rattle.ledger.specs.Calls.{Offering}
+use Rattle.ledger.specs.Calls.{Offering, Ending, Telling}
 use Rattle.ledger.specs.Checks.{positionRefusal, certificateRefusal}
 use Rattle.ledger.specs.Lives.{Lived, LeadsOn}
-use Rattle.ledger.specs.Past.{Call, offering, Event, Ledger, ledger}
+use Rattle.ledger.specs.Past.{Call, offering, ending, telling, Event, Ledger, ledger}
 use Rattle.ledger.specs.States.{State}
 use Rattle.lines.specs.declared.command.Command.{Command}
 use Rattle.lines.specs.declared.command.Command.the-variants.{Open, Offer, Confirm, End, Tell, Position, Close, Certificate}
@@ -92,8 +92,8 @@ Turned k tell (Offer number seller buyer submarket class source first last amoun
     let o : offer.Offer = record { number = number; seller = seller; buyer = buyer; submarket = submarket; class = class; source = source; first = first; last = last; amount = amount } in
     Acked (Changes k (offering o) (Offering o)) h line t
 Turned k tell (Confirm number agent) h line t = Acked Refused h line t
-Turned k tell (End number agent) h line t = Acked Refused h line t
-Turned k tell (Tell agent kwh) h line t = Acked Refused h line t
+Turned k tell (End number agent) h line t = Acked (Changes k (ending number agent) (Ending k number agent)) h line t
+Turned k tell (Tell agent kwh) h line t = Acked (Changes k (telling agent kwh) (Telling k agent kwh)) h line t
 Turned k tell (Position agent submarket hour) h line t = Located k tell (h .state) agent submarket hour line × (t ≡ h)
 Turned k tell Close h line t = Acked Closes h line t
 Turned k tell (Certificate agent) h line t = Certified k h agent line × (t ≡ h)

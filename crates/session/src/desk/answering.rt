@@ -1,6 +1,7 @@
 // What a line does to a session's month, and what is replied.
 ghost use mathlib.Core.Path.{_≡_};
 ghost use Prim.Native.Nat.{_≤_};
+ghost use lib.ListN.{length};
 ghost use Rattle.scale.specs.Refusals.{refusalOf};
 ghost use Rattle.entry.specs.Kinds.{meaning};
 ghost use Rattle.page.specs.Page.{Fronted};
@@ -8,7 +9,6 @@ ghost use Rattle.session.specs.Held.{heldOf};
 ghost use Rattle.session.specs.Questions.{showingOf};
 ghost use Rattle.session.specs.Turns.{ack, Replied, DeskTurned};
 use super::Desk;
-use super::ENTRIES;
 use super::calls::OUT_OF_TURN;
 use crate::shown::Shown;
 use book::contract::Offer;
@@ -31,7 +31,8 @@ pub(crate) fn put_ack(page: &mut [u8; ROOM], answer: Result<(), Fault>) -> usize
 
 impl Desk {
     // Answers a command other than one that opens: for every kind of entry, one text.
-    pub(crate) fn answer<E: Shown>(&mut self, board: &mut [E; ENTRIES], command: Command, page: &mut [u8; ROOM]) -> usize
+    pub(crate) fn answer<E: Shown>(&mut self, board: &mut [E], command: Command, page: &mut [u8; ROOM]) -> usize
+        requires board { ⌜ length (now board) ≡ 384 ⌝ }
         ensures does { λ n. ⌜ Replied (λ line. DeskTurned (meaning E·Joining E·Reversible) (showingOf E·Joining E·Shown) command
             (heldOf E·Joining (now (self .entry)) (now (board .entry))) line (heldOf E·Joining (now (self .exit)) (now (board .exit))))
             (now (page .entry)) (now (page .exit)) n ⌝ }
@@ -62,6 +63,8 @@ impl Desk {
                 };
                 put_ack(page, self.offer(board, offer))
             }
+            Command::End { number, agent } => put_ack(page, self.end(board, number, agent)),
+            Command::Tell { agent, kwh } => put_ack(page, self.tell(board, agent, kwh)),
             Command::Position {
                 agent,
                 submarket,

@@ -10,7 +10,6 @@ ghost use Rattle.page.specs.Page.{Fronted};
 ghost use Rattle.session.specs.Held.{heldOf, lentTo};
 ghost use Rattle.session.specs.Questions.{showingOf, PositionAsked, CertificateAsked};
 use super::Desk;
-use super::ENTRIES;
 use super::Lengths;
 use super::calls::OUT_OF_TURN;
 use crate::shown::Shown;
@@ -45,7 +44,8 @@ fn certify_on<E: Joining>(month: &Month<Closed>, lengths: Lengths, places: &[Con
 
 impl Desk {
     // The reply that tells a position.
-    pub(crate) fn position<E: Shown>(&self, board: &[E; ENTRIES], agent: u16, submarket: u16, hour: u16) -> Result<Reply, Fault>
+    pub(crate) fn position<E: Shown>(&self, board: &[E], agent: u16, submarket: u16, hour: u16) -> Result<Reply, Fault>
+        requires board { ⌜ length (now board) ≡ 384 ⌝ }
         ensures { λ r. ⌜ PositionAsked (meaning E·Joining E·Reversible) (showingOf E·Joining E·Shown) agent submarket hour (heldOf E·Joining (now (self .entry)) (now (board .entry))) r ⌝ }
     {
         let n = self.lengths.entries;
@@ -57,7 +57,8 @@ impl Desk {
     }
 
     // Writes a certificate line to the front of the page.
-    pub(crate) fn certificate<E: Joining>(&self, board: &[E; ENTRIES], agent: u16, page: &mut [u8; ROOM]) -> Result<usize, Fault>
+    pub(crate) fn certificate<E: Joining>(&self, board: &[E], agent: u16, page: &mut [u8; ROOM]) -> Result<usize, Fault>
+        requires board { ⌜ length (now board) ≡ 384 ⌝ }
         ensures { λ r. ⌜ CertificateAsked agent (heldOf E·Joining (now (self .entry)) (now (board .entry))) (now (page .entry)) (now (page .exit)) r ⌝ }
     {
         match &self.stage {

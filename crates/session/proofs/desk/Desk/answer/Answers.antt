@@ -3,11 +3,11 @@ use mathlib.Core.Path.{refl, ap}
 use native.Mathlib.Omega.{arith}
 use lib.ListN.{length, drop, length-append}
 use Rattle.entry.specs.Kinds.{meaning}
-use Rattle.ledger.specs.Calls.{Offering}
-use Rattle.ledger.specs.Past.{offering}
+use Rattle.ledger.specs.Calls.{Offering, Ending, Telling}
+use Rattle.ledger.specs.Past.{offering, ending, telling}
 use Rattle.scale.specs.Refusals.{refusalOf, told}
 use Rattle.book.specs.declared.contract.Offer as offer
-use Rattle.lines.specs.declared.command.Command.the-variants.{Offer, Close}
+use Rattle.lines.specs.declared.command.Command.the-variants.{Offer, End, Tell, Close}
 use Rattle.lines.specs.Spoken.{spokenLine, refused}
 use Rattle.session.specs.Held.{heldOf}
 use Rattle.session.specs.Questions.{showingOf}
@@ -34,6 +34,42 @@ returns-in-Offer g c =
           (Changes k (offering o) (Offering o)) (λ h t answer d. (answer, refl, d)) before after answer (c .offer .ensures));
       };
       within = c .put-ack .ensures .within;
+    }
+
+pub returns-in-End : need.returns-in-End
+returns-in-End g c =
+    let j = g .E·Joining in
+    let k = meaning j (g .E·Reversible) in
+    let tell = showingOf j (g .E·Shown) in
+    let a = c .in-End in
+    let before = heldOf j (c .args .self .now) (c .args .board .now) in
+    let after = heldOf j (c .end .last .self) (c .end .last .board) in
+    let answer = refusalOf (c .end .result) in
+    record {
+      does = record {
+        line = ack answer;
+        fronted = c .put-ack-in-End .ensures .put;
+        holds = as-read k tell before (ack answer) after (a .is) (acked k tell (End (a .number) (a .agent)) (Changes k (ending (a .number) (a .agent)) (Ending k (a .number) (a .agent))) (λ h t answer d. (answer, refl, d)) before after answer (c .end .ensures));
+      };
+      within = c .put-ack-in-End .ensures .within;
+    }
+
+pub returns-in-Tell : need.returns-in-Tell
+returns-in-Tell g c =
+    let j = g .E·Joining in
+    let k = meaning j (g .E·Reversible) in
+    let tell = showingOf j (g .E·Shown) in
+    let a = c .in-Tell in
+    let before = heldOf j (c .args .self .now) (c .args .board .now) in
+    let after = heldOf j (c .tell .last .self) (c .tell .last .board) in
+    let answer = refusalOf (c .tell .result) in
+    record {
+      does = record {
+        line = ack answer;
+        fronted = c .put-ack-in-Tell .ensures .put;
+        holds = as-read k tell before (ack answer) after (a .is) (acked k tell (Tell (a .agent) (a .kwh)) (Changes k (telling (a .agent) (a .kwh)) (Telling k (a .agent) (a .kwh))) (λ h t answer d. (answer, refl, d)) before after answer (c .tell .ensures));
+      };
+      within = c .put-ack-in-Tell .ensures .within;
     }
 
 pub returns-in-Ok : need.returns-in-Ok
@@ -129,7 +165,7 @@ returns-in-rest g c =
       does = record {
         line = ack (Some unfit);
         fronted = c .put-ack-in-rest .ensures .put;
-        holds = other (meaning j (g .E·Reversible)) (showingOf j (g .E·Shown)) (c .args .command) (c .in-rest .not-Offer) (c .in-rest .not-Position) (c .in-rest .not-Close) (c .in-rest .not-Certificate) held;
+        holds = other (meaning j (g .E·Reversible)) (showingOf j (g .E·Shown)) (c .args .command) (c .in-rest .not-Offer) (c .in-rest .not-End) (c .in-rest .not-Tell) (c .in-rest .not-Position) (c .in-rest .not-Close) (c .in-rest .not-Certificate) held;
       };
       within = c .put-ack-in-rest .ensures .within;
     }
