@@ -1,14 +1,18 @@
 -- Places and board of a month after a seller was resettled.
 use mathlib.Core.Path.{_≡_}
 use mathlib.Core.List.{List}
-use Prim.Native.Nat.{ℕ, _+_, _<_}
+use Prim.Native.Nat.{ℕ, _+_, _<_, _≤_}
 use lib.ListN.{length, take, drop}
-use Rattle.std.specs.declared.option.Option.the-variants.{Some}
+use Rattle.std.specs.declared.option.Option.the-variants.{Some, None}
 use Rattle.entry.specs.Kinds.{Kind}
 use Rattle.book.specs.declared.contract.Contract.{Contract}
 use Rattle.book.specs.declared.sizes.Sizes.{Sizes}
 use Rattle.book.specs.Cuts.{recut}
+use Rattle.book.specs.declared.contract.State.the-variants.{Offered}
+use Rattle.book.specs.Limits.{mostTotal}
 use Rattle.book.specs.Lookup.{placeOf}
+use Rattle.book.specs.Sound.{sellerTotal}
+use Rattle.book.specs.Supply.{supplyCheck}
 use Rattle.ledger.specs.Boards.{Revised}
 use Rattle.ledger.specs.Calls.{rounding}
 use Rattle.ledger.specs.States.{State, contracts, contractAt}
@@ -29,3 +33,9 @@ pub record Chosen {V : Type 0} (s : State V) (number : ℕ) (changed : Contract 
   pub found : placeOf number (contracts s) ≡ Some (index + 1)
   pub inside : index < s .taken
   pub is : contract ≡ changed (contractAt s index)
+
+-- the contract found there was offered, can be supplied on these weights, and fits within its seller's limit
+pub record Supplied {V : Type 0} (s : State V) (weights : List ℕ) (index : ℕ) : Type 0 where
+  pub offered : contractAt s index .state ≡ Offered
+  pub supply : supplyCheck (s .sizes .hours) (contractAt s index .terms) weights ≡ None
+  pub room : sellerTotal (contractAt s index .terms .seller) (contracts s) + contractAt s index .terms .amount ≤ mostTotal

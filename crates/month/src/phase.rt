@@ -5,6 +5,7 @@ use std::marker::PhantomData;
 
 pub mod certifying;
 pub mod closing;
+pub mod confirming;
 mod admission;
 pub mod ending;
 mod events;

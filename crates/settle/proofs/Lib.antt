@@ -1,5 +1,4 @@
 pub mod Following
 pub mod Settling
 pub mod Between
-pub mod Rows
 pub mod Recutting

@@ -1,0 +1,11 @@
+-- A confirmation leads every life on, since that is a step of a life.
+use Rattle.entry.specs.Kinds.{meaning}
+use Rattle.ledger.proofs.Law.{leads-confirming}
+use Rattle.month.proofs.Laws.{lawful}
+use Rattle.month.proofs.phase.confirming.Month+Open.confirm.Needs as need
+
+pub returns : need.returns
+returns g c = record {
+  step = c .enforce .ensures;
+  life = leads-confirming (meaning (g .E·Joining) (g .E·Reversible)) (lawful (g .E·Joining·met .assoc) (g .E·Joining·met .comm) (g .E·Joining·met .unit)) _ _ _
+    (c .args .number) (c .args .agent) (g .S·Scale .weights (c .args .scale .now)) (c .enforce .ensures) }
