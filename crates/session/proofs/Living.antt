@@ -50,7 +50,7 @@ module _ {V : Type 0} (k : Kind V) (laws : Laws (joins k)) where
   turned : (tell : Showing V) (c : Command) (h t : Held V) (line : List ℕ) (past : List Event) → Turned k tell c h line t → Lived k past (h .state) → On past (t .state)
   turned tell (Open a b d e) h t line past x life = same past h t (x .2 .1) life
   turned tell (Offer a b d e f g i j y) h t line past x life = changes (h .closed) _ _ h t (x .0) past (x .2) life
-  turned tell (Confirm a b) h t line past x life = same past h t (x .2 .1) life
+  turned tell (Confirm a b) h t line past x life = changes (h .closed) _ _ h t (x .0) past (x .2) life
   turned tell (End a b) h t line past x life = changes (h .closed) _ _ h t (x .0) past (x .2) life
   turned tell (Tell a b) h t line past x life = changes (h .closed) _ _ h t (x .0) past (x .2) life
   turned tell (Position a b d) h t line past x life = same past h t (x .1) life

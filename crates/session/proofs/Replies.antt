@@ -18,8 +18,7 @@ use Rattle.entry.specs.Kinds.{Kind, values}
 use Rattle.ledger.specs.Checks.{positionRefusal, certificateRefusal}
 use Rattle.ledger.specs.States.{State}
 use Rattle.lines.specs.declared.command.Command.{Command}
-use Rattle.lines.specs.declared.command.Command.the-variants as command
-use Rattle.lines.specs.declared.command.Command.the-variants.{Offer, Confirm, End, Tell, Position, Close, Certificate}
+use Rattle.lines.specs.declared.command.Command.the-variants.{Position, Certificate}
 use Rattle.lines.specs.declared.reply.Reply.{Reply}
 use Rattle.lines.specs.Spoken.{spokenLine, refused}
 use Rattle.month.specs.declared.phase.Closed as closing
@@ -44,23 +43,12 @@ module _ {V : Type 0} (k : Kind V) (tell : Showing V) (c : Command) where
   acked does so None after answer h = (ap ack (h .0), h .1)
   acked does so (Some b) after answer h = (h .0, h .1, so b (h .0) answer (h .2))
 
-  unfitted : ((h : Held V) → Turned k tell c h (ack (Some unfit)) h) → (held : Option (Held V)) → DeskTurned k tell c held (ack (Some unfit)) held
+  -- a line out of turn
+  pub unfitted : ((h : Held V) → Turned k tell c h (ack (Some unfit)) h) → (held : Option (Held V)) → DeskTurned k tell c held (ack (Some unfit)) held
   unfitted so None = (refl, refl)
   unfitted so (Some h) = (h, refl, so h)
 
 module _ {V : Type 0} (k : Kind V) (tell : Showing V) where
-  -- a line of another letter, which is out of turn once there is a month
-  pub other : (c : Command) → ((a b d e f g h i x : ℕ) → c ≡ Offer a b d e f g h i x → ⊥) → ((a b : ℕ) → c ≡ End a b → ⊥) → ((a b : ℕ) → c ≡ Tell a b → ⊥) → ((a m h : ℕ) → c ≡ Position a m h → ⊥) → (c ≡ Close → ⊥) → ((a : ℕ) → c ≡ Certificate a → ⊥)
-    → (held : Option (Held V)) → DeskTurned k tell c held (ack (Some unfit)) held
-  other (command.Open a b d e) no-offer no-end no-tell no-position no-close no-certificate held = unfitted k tell (command.Open a b d e) (λ h. (Some unfit, refl, (refl, refl))) held
-  other (Offer a b d e f g h i x) no-offer no-end no-tell no-position no-close no-certificate held = absurd (no-offer a b d e f g h i x refl)
-  other (Confirm a b) no-offer no-end no-tell no-position no-close no-certificate held = unfitted k tell (Confirm a b) (λ h. (Some unfit, refl, (refl, refl))) held
-  other (End a b) no-offer no-end no-tell no-position no-close no-certificate held = absurd (no-end a b refl)
-  other (Tell a b) no-offer no-end no-tell no-position no-close no-certificate held = absurd (no-tell a b refl)
-  other (Position a m h) no-offer no-end no-tell no-position no-close no-certificate held = absurd (no-position a m h refl)
-  other Close no-offer no-end no-tell no-position no-close no-certificate held = absurd (no-close refl)
-  other (Certificate a) no-offer no-end no-tell no-position no-close no-certificate held = absurd (no-certificate a refl)
-
   -- a position that was told, and one that was refused
   pub located : (agent submarket hour : ℕ) (held : Option (Held V)) (y : Reply) → PositionAsked k tell agent submarket hour held (Ok y)
     → DeskTurned k tell (Position agent submarket hour) held (spokenLine y) held

@@ -3,18 +3,19 @@ use mathlib.Core.Path.{_≡_}
 use mathlib.Core.Bool.{Bool, true, false}
 use mathlib.Core.List.{List}
 use Prim.Native.Nat.{ℕ}
-use lib.ListN.{length}
+use lib.ListN.{length, replicate}
 use Rattle.std.specs.declared.option.Option.{Option}
 use Rattle.std.specs.declared.option.Option.the-variants.{Some, None}
 use Rattle.std.specs.Orderings.{When}
 use Rattle.scale.specs.Refusals.{Refusal, refusal}
 use Rattle.entry.specs.Kinds.{Kind}
 use Rattle.book.specs.declared.contract.Offer as offer
+use Rattle.book.specs.declared.sizes.Sizes.{Sizes}
 use Rattle.ledger.specs.Boards.{positionOf}
-use Rattle.ledger.specs.Calls.{Offering, Ending, Telling}
+use Rattle.ledger.specs.Calls.{Offering, Confirming, Ending, Telling}
 use Rattle.ledger.specs.Checks.{positionRefusal, certificateRefusal}
 use Rattle.ledger.specs.Lives.{Lived, LeadsOn}
-use Rattle.ledger.specs.Past.{Call, offering, ending, telling, Event, Ledger, ledger}
+use Rattle.ledger.specs.Past.{Call, offering, confirming, ending, telling, Event, Ledger, ledger}
 use Rattle.ledger.specs.States.{State}
 use Rattle.lines.specs.declared.command.Command.{Command}
 use Rattle.lines.specs.declared.command.Command.the-variants.{Open, Offer, Confirm, End, Tell, Position, Close, Certificate}
@@ -81,6 +82,13 @@ module _ {V : Type 0} (k : Kind V) where
   abbrev pub Certified : Held V → ℕ → List ℕ → Type 0
   Certified h agent line = When (h .closed) (Asked (certificateRefusal (h .state) agent 64) (λ l. l ≡ certified (h .state) agent) line) (line ≡ ack (Some unfit))
 
+-- the even scale of a month's hours
+abbrev pub evenly : Sizes → List ℕ
+evenly sizes = replicate (sizes .hours) 1
+
+abbrev pub Confirms : {V : Type 0} → Kind V → ℕ → ℕ → Held V → Option Refusal → Held V → Type 0
+Confirms k number agent h = Changes k (confirming number agent (evenly (h .state .sizes))) (Confirming k number agent (evenly (h .state .sizes))) h
+
 -- a call that is acknowledged
 abbrev pub Acked : {V : Type 0} → (Held V → Option Refusal → Held V → Type 0) → Held V → List ℕ → Held V → Type 0
 Acked does h line t = (answer : Option Refusal) × (line ≡ ack answer) × does h answer t
@@ -91,7 +99,7 @@ Turned k tell (Open agents hours places kind) h line t = Acked Refused h line t
 Turned k tell (Offer number seller buyer submarket class source first last amount) h line t =
     let o : offer.Offer = record { number = number; seller = seller; buyer = buyer; submarket = submarket; class = class; source = source; first = first; last = last; amount = amount } in
     Acked (Changes k (offering o) (Offering o)) h line t
-Turned k tell (Confirm number agent) h line t = Acked Refused h line t
+Turned k tell (Confirm number agent) h line t = Acked (Confirms k number agent) h line t
 Turned k tell (End number agent) h line t = Acked (Changes k (ending number agent) (Ending k number agent)) h line t
 Turned k tell (Tell agent kwh) h line t = Acked (Changes k (telling agent kwh) (Telling k agent kwh)) h line t
 Turned k tell (Position agent submarket hour) h line t = Located k tell (h .state) agent submarket hour line × (t ≡ h)

@@ -63,6 +63,7 @@ impl Desk {
                 };
                 put_ack(page, self.offer(board, offer))
             }
+            Command::Confirm { number, agent } => put_ack(page, self.confirm(board, number, agent)),
             Command::End { number, agent } => put_ack(page, self.end(board, number, agent)),
             Command::Tell { agent, kwh } => put_ack(page, self.tell(board, agent, kwh)),
             Command::Position {
@@ -78,7 +79,12 @@ impl Desk {
                 Err(fault) => put_reply(page, Reply::of_fault(fault)),
             },
             Command::Close => put_ack(page, self.close()),
-            _ => put_ack(page, Err(OUT_OF_TURN)),
+            Command::Open {
+                agents: _,
+                hours: _,
+                places: _,
+                kind: _,
+            } => put_ack(page, Err(OUT_OF_TURN)),
         }
     }
 }

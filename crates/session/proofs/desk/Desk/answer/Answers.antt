@@ -7,13 +7,13 @@ use Rattle.ledger.specs.Calls.{Offering, Ending, Telling}
 use Rattle.ledger.specs.Past.{offering, ending, telling}
 use Rattle.scale.specs.Refusals.{refusalOf, told}
 use Rattle.book.specs.declared.contract.Offer as offer
-use Rattle.lines.specs.declared.command.Command.the-variants.{Offer, End, Tell, Close}
+use Rattle.lines.specs.declared.command.Command.the-variants.{Open, Offer, Confirm, End, Tell, Close}
 use Rattle.lines.specs.Spoken.{spokenLine, refused}
 use Rattle.session.specs.Held.{heldOf}
 use Rattle.session.specs.Questions.{showingOf}
-use Rattle.session.specs.Turns.{Changes, Closes, ack, unfit}
+use Rattle.session.specs.Turns.{Changes, Closes, Confirms, ack, unfit}
 use Rattle.std.specs.declared.option.Option.the-variants.{Some}
-use Rattle.session.proofs.Replies.{acked, other, located, unlocated, certified-on, uncertified, shut, as-read, as-read-on}
+use Rattle.session.proofs.Replies.{acked, unfitted, located, unlocated, certified-on, uncertified, shut, as-read, as-read-on}
 use Rattle.session.proofs.desk.Desk.answer.Needs as need
 
 pub returns-in-Offer : need.returns-in-Offer
@@ -34,6 +34,24 @@ returns-in-Offer g c =
           (Changes k (offering o) (Offering o)) (λ h t answer d. (answer, refl, d)) before after answer (c .offer .ensures));
       };
       within = c .put-ack .ensures .within;
+    }
+
+pub returns-in-Confirm : need.returns-in-Confirm
+returns-in-Confirm g c =
+    let j = g .E·Joining in
+    let k = meaning j (g .E·Reversible) in
+    let tell = showingOf j (g .E·Shown) in
+    let a = c .in-Confirm in
+    let before = heldOf j (c .args .self .now) (c .args .board .now) in
+    let after = heldOf j (c .confirm .last .self) (c .confirm .last .board) in
+    let answer = refusalOf (c .confirm .result) in
+    record {
+      does = record {
+        line = ack answer;
+        fronted = c .put-ack-in-Confirm .ensures .put;
+        holds = as-read k tell before (ack answer) after (a .is) (acked k tell (Confirm (a .number) (a .agent)) (Confirms k (a .number) (a .agent)) (λ h t answer d. (answer, refl, d)) before after answer (c .confirm .ensures));
+      };
+      within = c .put-ack-in-Confirm .ensures .within;
     }
 
 pub returns-in-End : need.returns-in-End
@@ -157,15 +175,18 @@ returns-in-Close g c =
       within = c .put-ack-in-Close .ensures .within;
     }
 
-pub returns-in-rest : need.returns-in-rest
-returns-in-rest g c =
+pub returns-in-Open : need.returns-in-Open
+returns-in-Open g c =
     let j = g .E·Joining in
+    let k = meaning j (g .E·Reversible) in
+    let tell = showingOf j (g .E·Shown) in
+    let a = c .in-Open in
     let held = heldOf j (c .args .self .now) (c .args .board .now) in
     record {
       does = record {
         line = ack (Some unfit);
-        fronted = c .put-ack-in-rest .ensures .put;
-        holds = other (meaning j (g .E·Reversible)) (showingOf j (g .E·Shown)) (c .args .command) (c .in-rest .not-Offer) (c .in-rest .not-End) (c .in-rest .not-Tell) (c .in-rest .not-Position) (c .in-rest .not-Close) (c .in-rest .not-Certificate) held;
+        fronted = c .put-ack-in-Open .ensures .put;
+        holds = as-read k tell held (ack (Some unfit)) held (a .is) (unfitted k tell (Open (a .agents) (a .hours) (a .places) (a .kind)) (λ h. (Some unfit, refl, (refl, refl))) held);
       };
-      within = c .put-ack-in-rest .ensures .within;
+      within = c .put-ack-in-Open .ensures .within;
     }

@@ -2,6 +2,7 @@ use mathlib.Core.Path.{_≡_, refl, sym, _∙_}
 use Rattle.entry.specs.Kinds.{meaning}
 use Rattle.ledger.specs.Calls.{Telling}
 use Rattle.ledger.specs.Past.{telling}
+use Rattle.session.specs.Turns.{Changes}
 use Rattle.session.specs.declared.stage.Stage.the-variants.{Open}
 use Rattle.session.proofs.Staged.{not-open}
 use Rattle.session.proofs.desk.Desk.tell.Needs as need
@@ -14,5 +15,5 @@ returns-in-Open g c =
 pub returns-in-rest : need.returns-in-rest
 returns-in-rest g c =
     let k = meaning (g .E·Joining) (g .E·Reversible) in
-    not-open (g .E·Joining) k (telling (c .args .agent) (c .args .kwh)) (Telling k (c .args .agent) (c .args .kwh)) (c .args .self .now) (c .args .board .now)
+    not-open (g .E·Joining) (Changes k (telling (c .args .agent) (c .args .kwh)) (Telling k (c .args .agent) (c .args .kwh))) (λ s. (refl, refl)) (c .args .self .now) (c .args .board .now)
     (c .args .self .now .stage) (c .put-back-in-rest .ensures ∙ c .replace .ensures .value) (λ m e. c .in-rest .not-Open m (c .replace .ensures .value ∙ e))
