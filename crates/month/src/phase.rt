@@ -14,6 +14,7 @@ pub mod offering;
 pub mod positions;
 pub mod quantities;
 pub mod questions;
+pub mod sizing;
 mod settling;
 pub mod telling;
 
