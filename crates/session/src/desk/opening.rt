@@ -136,8 +136,12 @@ impl Desk {
         } = self;
         match stage {
             Stage::Idle => {}
-            Stage::Open(month) => month.discard(),
-            Stage::Closed(month) => month.discard(),
+            Stage::Open(month) => {
+                let _ = month.discard();
+            }
+            Stage::Closed(month) => {
+                let _ = month.discard();
+            }
         }
     }
 
