@@ -55,5 +55,9 @@ module _ {E P : Type 0} (j : joining.Ghosts E) (m : Month P) (places : List Cont
     admits sound =
         let l = long _ _ _ _ _ _ _ passes in
         record {
-          places = l .places; rows = l .rows; shortfalls = l .shortfalls; board = length-map board (j .value) ∙ l .board;
-          sound = subst (λ (cs : List Contract). SoundBook (m .sizes) cs rows shortfalls) (from-start (m .taken) places) sound }
+          places = l .places;
+          rows = l .rows;
+          shortfalls = l .shortfalls;
+          board = length-map board (j .value) ∙ l .board;
+          sound = subst (λ (cs : List Contract). SoundBook (m .sizes) cs rows shortfalls) (from-start (m .taken) places) sound;
+        }

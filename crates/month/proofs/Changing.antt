@@ -55,35 +55,47 @@ sells-none seller c idle = cond-false _ _ _ (and-left (inForce c) _ idle)
 module _ (z : Sizes) (cs : List Contract) (rows f : List ℕ) (sound : SoundBook z cs rows f) where
   -- each place of the sound book is ready over rows that agree wherever a contract is in force
   old-placed : (rows′ : List ℕ) → ((i : ℕ) → i < length cs → inForce (getD cs i blank) ≡ true → rowOf (z .hours) rows′ i ≡ rowOf (z .hours) rows i)
-    → (i : ℕ) → i < length cs → Placed z (rowOf (z .hours) rows′ i) (getD cs i blank)
+      → (i : ℕ) → i < length cs → Placed z (rowOf (z .hours) rows′ i) (getD cs i blank)
   old-placed rows′ same i lt =
       let p = placed-sound z cs rows i (getD cs i blank) (sound .place i blank lt) in
       record { terms = p .terms; total = λ force. ap sum (same i lt force) ∙ p .total force; effective = p .effective }
 
   pub ready-all : (entries : ℕ) → length cs * z .hours ≤ length rows → entries ≡ z .agents * 4 * z .hours → Ready z cs cs rows entries
   ready-all entries covered full = record {
-    long = refl; covered = covered; board = full; before = old-placed rows (λ i lt force. refl); after = old-placed rows (λ i lt force. refl) }
+    long = refl;
+    covered = covered;
+    board = full;
+    before = old-placed rows (λ i lt force. refl);
+    after = old-placed rows (λ i lt force. refl);
+  }
 
   module _ (rows′ : List ℕ) (same : (i : ℕ) → i < length cs → inForce (getD cs i blank) ≡ true → rowOf (z .hours) rows′ i ≡ rowOf (z .hours) rows i)
-    (index : ℕ) (inside : index < length cs) (changed : Contract) (terms : changed .terms ≡ getD cs index blank .terms)
-    (total : inForce changed ≡ true → sum (rowOf (z .hours) rows′ index) ≡ changed .terms .amount)
-    (effective : inForce changed ≡ true → changed .effective ≤ limit) where
+      (index : ℕ) (inside : index < length cs) (changed : Contract) (terms : changed .terms ≡ getD cs index blank .terms)
+      (total : inForce changed ≡ true → sum (rowOf (z .hours) rows′ index) ≡ changed .terms .amount)
+      (effective : inForce changed ≡ true → changed .effective ≤ limit) where
     here : Placed z (rowOf (z .hours) rows′ index) changed
     here = record {
       terms = subst (λ (t : Terms). Acceptable z (fields t)) (sym terms) (sound .place index blank inside .terms);
-      total = total; effective = effective }
+      total = total;
+      effective = effective;
+    }
 
     pub ready-changed : (entries : ℕ) → length cs * z .hours ≤ length rows′ → entries ≡ z .agents * 4 * z .hours → Ready z cs (set cs index changed) rows′ entries
     ready-changed entries covered full = record {
-      long = length-set cs index changed; covered = covered; board = full; before = old-placed rows′ same;
+      long = length-set cs index changed;
+      covered = covered;
+      board = full;
+      before = old-placed rows′ same;
       after = λ i lt. elim (cases-eq i index) [
-          inl e ↦ subst (Placed z (rowOf (z .hours) rows′ i)) (sym (ap (λ (n : ℕ). getD (set cs index changed) n blank) e ∙ getD-set-same cs index changed blank inside))
+        | inl e ↦ subst (Placed z (rowOf (z .hours) rows′ i)) (sym (ap (λ (n : ℕ). getD (set cs index changed) n blank) e ∙ getD-set-same cs index changed blank inside))
             (subst (λ (n : ℕ). Placed z (rowOf (z .hours) rows′ n) changed) (sym e) here)
-        | inr ne ↦ subst (Placed z (rowOf (z .hours) rows′ i)) (sym (getD-set-other cs index i changed blank ne)) (old-placed rows′ same i lt) ] }
+        | inr ne ↦ subst (Placed z (rowOf (z .hours) rows′ i)) (sym (getD-set-other cs index i changed blank ne)) (old-placed rows′ same i lt)
+      ];
+    }
 
   -- the seller's amounts in force once one contract has changed
   pub sold-changed : (seller index : ℕ) (changed : Contract) → index < length cs
-    → sellerTotal seller (set cs index changed) + soldBy seller (getD cs index blank) ≡ sellerTotal seller cs + soldBy seller changed
+      → sellerTotal seller (set cs index changed) + soldBy seller (getD cs index blank) ≡ sellerTotal seller cs + soldBy seller changed
   sold-changed seller index changed inside = sumBy-set (soldBy seller) cs index changed blank inside
 
   pub sold-most : (seller : ℕ) → sellerTotal seller cs ≤ mostTotal
@@ -91,10 +103,10 @@ module _ (z : Sizes) (cs : List Contract) (rows f : List ℕ) (sound : SoundBook
 
 -- places and board that were settled make the next state of the month
 module _ {V : Type 0} (k : Kind V) (laws : Laws (joins k)) (s t : State V) (rows : List ℕ) (seller : ℕ) (marked : List Contract)
-  (taken : t .taken ≡ s .taken) (sizes : t .sizes ≡ s .sizes) (room : s .taken ≤ length (s .places))
-  (old-row : (i : ℕ) → i < s .taken → inForce (contractAt s i) ≡ true → rowOf (s .sizes .hours) rows i ≡ rowAt s i)
-  (new-row : (i : ℕ) → i < s .taken → inForce (contractAt t i) ≡ true → rowOf (s .sizes .hours) rows i ≡ rowAt t i)
-  (settled : Settled k (s .sizes) (s .taken) seller (shortfallOf t seller) marked rows (s .places) (t .places) (s .board) (t .board)) where
+    (taken : t .taken ≡ s .taken) (sizes : t .sizes ≡ s .sizes) (room : s .taken ≤ length (s .places))
+    (old-row : (i : ℕ) → i < s .taken → inForce (contractAt s i) ≡ true → rowOf (s .sizes .hours) rows i ≡ rowAt s i)
+    (new-row : (i : ℕ) → i < s .taken → inForce (contractAt t i) ≡ true → rowOf (s .sizes .hours) rows i ≡ rowAt t i)
+    (settled : Settled k (s .sizes) (s .taken) seller (shortfallOf t seller) marked rows (s .places) (t .places) (s .board) (t .board)) where
   now-taken : take (t .taken) (t .places) ≡ take (s .taken) (t .places)
   now-taken = ap (λ (n : ℕ). take n (t .places)) taken
 
@@ -106,4 +118,5 @@ module _ {V : Type 0} (k : Kind V) (laws : Laws (joins k)) (s t : State V) (rows
     taken = taken;
     sizes = sizes;
     board = revised-between k laws rounding s t rows taken room (omega (arith, taken, settled .long)) old-row new-row
-      (subst (λ (cs : List Contract). Revised k rounding (booked (s .sizes) (contracts s) rows (s .board)) (booked (s .sizes) cs rows (t .board))) (sym now-taken) (settled .board)) }
+        (subst (λ (cs : List Contract). Revised k rounding (booked (s .sizes) (contracts s) rows (s .board)) (booked (s .sizes) cs rows (t .board))) (sym now-taken) (settled .board));
+  }

@@ -60,32 +60,32 @@ module _ {E P : Type 0} (j : joining.Ghosts E) (m : Month P) (places : List Cont
 
   -- the number decides: absent, or what is checked at its place
   pub decided : (number : ℕ) (checks : ℕ → Option Refusal) (answer : Option ℕ) → None ≡ admitted s → placeOf number (contracts s) ≡ answer
-    → firstOf (admitted s ∷ atNumber (placeOf number (contracts s)) checks ∷ []) ≡ atNumber answer checks
+      → firstOf (admitted s ∷ atNumber (placeOf number (contracts s)) checks ∷ []) ≡ atNumber answer checks
   decided number checks answer passes e = first-none (admitted s) _ (sym passes) ∙ last-one _ ∙ ap (λ (o : Option ℕ). atNumber o checks) e
 
 -- what a confirmation examines once the contract is found
 abbrev pub confirmOf : ℕ → List Contract → Contract → ℕ → ℕ → List ℕ → Option Refusal
 confirmOf hours cs c agent place weights = firstOf (
-  eventOf c Confirmation agent place
-  ∷ supplyCheck hours (c .terms) weights
-  ∷ unless (leb (sellerTotal (c .terms .seller) cs + c .terms .amount) mostTotal) 15 place
-  ∷ [])
+    eventOf c Confirmation agent place
+    ∷ supplyCheck hours (c .terms) weights
+    ∷ unless (leb (sellerTotal (c .terms .seller) cs + c .terms .amount) mostTotal) 15 place
+    ∷ [])
 
 module _ {E P : Type 0} (j : joining.Ghosts E) (m : Month P) (places : List Contract) (rows shortfalls : List ℕ) (board : List E)
-  (number agent place : ℕ) (weights : List ℕ) (passes : None ≡ admitted (stateOf j m places rows shortfalls board)) (room : m .taken ≤ length places)
-  (is : Some place ≡ placeOf number (take (m .taken - 0) places)) (first : FirstPlace number (take (m .taken - 0) places) place) where
+    (number agent place : ℕ) (weights : List ℕ) (passes : None ≡ admitted (stateOf j m places rows shortfalls board)) (room : m .taken ≤ length places)
+    (is : Some place ≡ placeOf number (take (m .taken - 0) places)) (first : FirstPlace number (take (m .taken - 0) places) place) where
   abbrev now-s : State (j .Value)
   now-s = stateOf j m places rows shortfalls board
 
   pub confirm-decided : confirmRefusal now-s number agent weights ≡ confirmOf (m .sizes .hours) (contracts now-s) (getD places (place - 1) blank) agent place weights
   confirm-decided =
       decided j m places rows shortfalls board number
-        (λ p. confirmOf (m .sizes .hours) (contracts now-s) (contractAt now-s (p - 1)) agent p weights) (Some place) passes (found j m places rows shortfalls board number place is)
+      (λ p. confirmOf (m .sizes .hours) (contracts now-s) (contractAt now-s (p - 1)) agent p weights) (Some place) passes (found j m places rows shortfalls board number place is)
       ∙ ap (λ (c : Contract). confirmOf (m .sizes .hours) (contracts now-s) c agent place weights) (sym (at j m places rows shortfalls board room number place first))
 
   -- the seller's room, as the code examines it
   pub room-is : (b : Bool) → b ≡ leb (sellerTotal (getD places (place - 1) blank .terms .seller) (take (m .taken - 0) places) + getD places (place - 1) blank .terms .amount) mostTotal
-    → leb (sellerTotal (getD places (place - 1) blank .terms .seller) (contracts now-s) + getD places (place - 1) blank .terms .amount) mostTotal ≡ b
+      → leb (sellerTotal (getD places (place - 1) blank .terms .seller) (contracts now-s) + getD places (place - 1) blank .terms .amount) mostTotal ≡ b
   room-is b e = sym (e ∙ ap (λ (cs : List Contract). leb (sellerTotal (getD places (place - 1) blank .terms .seller) cs + getD places (place - 1) blank .terms .amount) mostTotal) (from-start (m .taken) places))
 
 -- what the question for a quantity examines once the contract is found
@@ -93,10 +93,10 @@ abbrev pub quantityOf : ℕ → Contract → ℕ → ℕ → Option Refusal
 quantityOf hours c place hour = firstOf (unless (between 1 hours hour) 4 2 ∷ unless (inForce c) 10 place ∷ [])
 
 module _ {E P : Type 0} (j : joining.Ghosts E) (m : Month P) (places : List Contract) (rows shortfalls : List ℕ) (board : List E)
-  (number place hour : ℕ) (passes : None ≡ admitted (stateOf j m places rows shortfalls board)) (room : m .taken ≤ length places)
-  (is : Some place ≡ placeOf number (take (m .taken - 0) places)) (first : FirstPlace number (take (m .taken - 0) places) place) where
+    (number place hour : ℕ) (passes : None ≡ admitted (stateOf j m places rows shortfalls board)) (room : m .taken ≤ length places)
+    (is : Some place ≡ placeOf number (take (m .taken - 0) places)) (first : FirstPlace number (take (m .taken - 0) places) place) where
   pub quantity-decided : quantityRefusal (stateOf j m places rows shortfalls board) number hour ≡ quantityOf (m .sizes .hours) (getD places (place - 1) blank) place hour
   quantity-decided =
       decided j m places rows shortfalls board number
-        (λ p. quantityOf (m .sizes .hours) (contractAt (stateOf j m places rows shortfalls board) (p - 1)) p hour) (Some place) passes (found j m places rows shortfalls board number place is)
+      (λ p. quantityOf (m .sizes .hours) (contractAt (stateOf j m places rows shortfalls board) (p - 1)) p hour) (Some place) passes (found j m places rows shortfalls board number place is)
       ∙ ap (λ (c : Contract). quantityOf (m .sizes .hours) c place hour) (sym (at j m places rows shortfalls board room number place first))

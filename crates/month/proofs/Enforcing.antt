@@ -42,7 +42,7 @@ sells-all : (c : Contract) → inForce c ≡ true → soldBy (c .terms .seller) 
 sells-all c force = cond-true _ _ _ (and-from (inForce c) _ force (eq-eqb (c .terms .seller) (c .terms .seller) refl))
 
 module _ {V : Type 0} (s : State V) (number index : ℕ) (contract : Contract) (weights : List ℕ)
-  (chosen : Chosen s number enforced index contract) (supplied : Supplied s weights index) (within : s .taken ≤ s .sizes .places) where
+    (chosen : Chosen s number enforced index contract) (supplied : Supplied s weights index) (within : s .taken ≤ s .sizes .places) where
   abbrev here : Contract
   here = contractAt s index
 
@@ -70,15 +70,15 @@ module _ {V : Type 0} (s : State V) (number index : ℕ) (contract : Contract) (
 
   row-long : length row ≡ hours
   row-long = length-shared (rounding (here .terms .amount) (sum (clipped (here .terms .first) (here .terms .last) weights))) 0 (clipped (here .terms .first) (here .terms .last) weights) ∙ length-clippedFrom 1 (here .terms .first) (here .terms .last) weights
-    ∙ supply hours (here .terms) weights (supplied .supply) .long
+      ∙ supply hours (here .terms) weights (supplied .supply) .long
 
   row-total : sum row ≡ here .terms .amount
   row-total = of-total downTo down-sound (here .terms .amount) (clipped (here .terms .first) (here .terms .last) weights)
-    (weighs-some (clipped (here .terms .first) (here .terms .last) weights) (supply hours (here .terms) weights (supplied .supply) .weighs))
+      (weighs-some (clipped (here .terms .first) (here .terms .last) weights) (supply hours (here .terms) weights (supplied .supply) .weighs))
 
   -- what the code wrote, in the contract's own terms
   pub rows-written : (h : ℕ) (rows : List ℕ) → h ≡ hours
-    → rows ≡ putRow h index (sharesOf rounding (contract .terms .amount) (clipped (contract .terms .first) (contract .terms .last) weights)) (s .rows) → rows ≡ written
+      → rows ≡ putRow h index (sharesOf rounding (contract .terms .amount) (clipped (contract .terms .first) (contract .terms .last) weights)) (s .rows) → rows ≡ written
   rows-written h rows e is =
       is ∙ ap (λ (n : ℕ). putRow n index (sharesOf rounding (contract .terms .amount) (clipped (contract .terms .first) (contract .terms .last) weights)) (s .rows)) e
       ∙ ap (λ t. putRow hours index (sharesOf rounding (t .amount) (clipped (t .first) (t .last) weights)) (s .rows)) same-terms
@@ -92,38 +92,47 @@ module _ {V : Type 0} (s : State V) (number index : ℕ) (contract : Contract) (
   -- where a contract was in force its row stays
   old-row : (i : ℕ) → inForce (getD (contracts s) i blank) ≡ true → rowOf hours written i ≡ rowOf hours (s .rows) i
   old-row i force = row-there hours index row (s .rows) row-long row-room i
-    (λ e. false≢true (sym was-idle ∙ ap (λ (n : ℕ). inForce (getD (contracts s) n blank)) (sym e) ∙ force))
+      (λ e. false≢true (sym was-idle ∙ ap (λ (n : ℕ). inForce (getD (contracts s) n blank)) (sym e) ∙ force))
 
   pub ready-enforced : (entries : ℕ) → entries ≡ s .sizes .agents * 4 * hours → Ready (s .sizes) (contracts s) (set (contracts s) index contract) written entries
   ready-enforced entries full =
       ready-changed (s .sizes) (contracts s) (s .rows) (s .shortfalls) (chosen .admitted .sound) written (λ i lt force. old-row i force) index inside contract same-terms
-        (λ _. ap sum (row-here hours index row (s .rows) row-long row-room) ∙ row-total ∙ ap (λ t. t .amount) (sym same-terms))
-        (λ _. omega (arith, ap (λ (c : Contract). c .effective) (chosen .is), chosen .admitted .sound .place index blank inside .effective, amount-low))
-        entries (covered s (chosen .admitted) within written (length-put hours index row (s .rows) row-long row-room)) full
+      (λ _. ap sum (row-here hours index row (s .rows) row-long row-room) ∙ row-total ∙ ap (λ t. t .amount) (sym same-terms))
+      (λ _. omega (arith, ap (λ (c : Contract). c .effective) (chosen .is), chosen .admitted .sound .place index blank inside .effective, amount-low))
+      entries (covered s (chosen .admitted) within written (length-put hours index row (s .rows) row-long row-room)) full
 
   pub moderate-enforced : sellerTotal (contract .terms .seller) (set (contracts s) index contract) ≤ mostTotal
   moderate-enforced =
-      omega (arith, sold-changed (s .sizes) (contracts s) (s .rows) (s .shortfalls) (chosen .admitted .sound) (contract .terms .seller) index contract inside,
-        sells-none (contract .terms .seller) here was-idle, sells-all contract is-force, sold-here, supplied .room, amount-same)
+      omega (
+        arith,
+        sold-changed (s .sizes) (contracts s) (s .rows) (s .shortfalls) (chosen .admitted .sound) (contract .terms .seller) index contract inside,
+        sells-none (contract .terms .seller) here was-idle,
+        sells-all contract is-force,
+        sold-here,
+        supplied .room,
+        amount-same,
+      )
     where
       sold-here : sellerTotal (contract .terms .seller) (contracts s) ≡ sellerTotal (here .terms .seller) (contracts s)
       sold-here = ap (λ t. sellerTotal (t .seller) (contracts s)) same-terms
+
       amount-same : contract .terms .amount ≡ here .terms .amount
       amount-same = ap (λ t. t .amount) same-terms
 
   pub entered : (k : Kind V) → Laws (joins k) → (t : State V) → t .taken ≡ s .taken → t .sizes ≡ s .sizes → t .rows ≡ written → t .shortfalls ≡ s .shortfalls
-    → (short : ℕ) → short ≡ shortfallOf s (contract .terms .seller)
-    → Settled k (s .sizes) (s .taken) (contract .terms .seller) short (set (contracts s) index contract) written (s .places) (t .places) (s .board) (t .board)
-    → Enforced k number weights s t
+      → (short : ℕ) → short ≡ shortfallOf s (contract .terms .seller)
+      → Settled k (s .sizes) (s .taken) (contract .terms .seller) short (set (contracts s) index contract) written (s .places) (t .places) (s .board) (t .board)
+      → Enforced k number weights s t
   entered k laws t taken sizes rows shortfalls short is settled =
       let owed : short ≡ shortfallOf t (contract .terms .seller) = is ∙ ap (λ (f : List ℕ). getD f (contract .terms .seller - 1) 0) (sym shortfalls) in
       let named : Settled k (s .sizes) (s .taken) (here .terms .seller) (shortfallOf t (here .terms .seller)) (set (contracts s) index (enforced here)) written (s .places) (t .places) (s .board) (t .board)
-            = subst (λ (c : Contract). Settled k (s .sizes) (s .taken) (c .terms .seller) (shortfallOf t (c .terms .seller)) (set (contracts s) index c) written (s .places) (t .places) (s .board) (t .board)) (chosen .is)
-                (subst (λ (n : ℕ). Settled k (s .sizes) (s .taken) (contract .terms .seller) n (set (contracts s) index contract) written (s .places) (t .places) (s .board) (t .board)) owed settled) in
+      = subst (λ (c : Contract). Settled k (s .sizes) (s .taken) (c .terms .seller) (shortfallOf t (c .terms .seller)) (set (contracts s) index c) written (s .places) (t .places) (s .board) (t .board)) (chosen .is)
+      (subst (λ (n : ℕ). Settled k (s .sizes) (s .taken) (contract .terms .seller) n (set (contracts s) index contract) written (s .places) (t .places) (s .board) (t .board)) owed settled) in
       record {
         index = index;
         found = chosen .found;
         rows = rows;
         shortfalls = shortfalls;
         settled = resettled k laws s t written (here .terms .seller) (set (contracts s) index (enforced here)) taken sizes (room s (chosen .admitted) within)
-          (λ i lt force. old-row i force) (λ i lt force. ap (λ (rs : List ℕ). rowOf hours rs i) (sym rows) ∙ ap (λ z. rowOf (z .hours) (t .rows) i) (sym sizes)) named }
+            (λ i lt force. old-row i force) (λ i lt force. ap (λ (rs : List ℕ). rowOf hours rs i) (sym rows) ∙ ap (λ z. rowOf (z .hours) (t .rows) i) (sym sizes)) named;
+      }

@@ -7,7 +7,7 @@ use lib.Arith.{digits-lt}
 
 -- every entry within the limits stands on the board
 pub entry-within : (agents hours agent submarket hour n : ℕ) → 1 ≤ agent → agent ≤ agents → 1 ≤ submarket → submarket ≤ 4 → 1 ≤ hour → hour ≤ hours
-  → n ≡ agents * 4 * hours → ((agent - 1) * 4 + (submarket - 1)) * hours + (hour - 1) < n
+    → n ≡ agents * 4 * hours → ((agent - 1) * 4 + (submarket - 1)) * hours + (hour - 1) < n
 entry-within agents hours agent submarket hour n a1 a2 s1 s2 h1 h2 e =
     let lane = (agent - 1) * 4 + (submarket - 1) in
     let last : lane + 1 ≤ agents * 4 = omega arith in

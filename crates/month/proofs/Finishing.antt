@@ -65,30 +65,35 @@ module _ {V : Type 0} (s : State V) (number index : ℕ) (contract : Contract) (
   pub ready-ended : (entries : ℕ) → entries ≡ s .sizes .agents * 4 * s .sizes .hours → Ready (s .sizes) (contracts s) (set (contracts s) index contract) (s .rows) entries
   ready-ended entries full =
       ready-changed (s .sizes) (contracts s) (s .rows) (s .shortfalls) (chosen .admitted .sound) (s .rows) (λ i lt force. refl) index inside contract same-terms
-        (λ force. absurd (false≢true (sym idle ∙ force))) (λ force. absurd (false≢true (sym idle ∙ force))) entries (covered s (chosen .admitted) within (s .rows) refl) full
+      (λ force. absurd (false≢true (sym idle ∙ force))) (λ force. absurd (false≢true (sym idle ∙ force))) entries (covered s (chosen .admitted) within (s .rows) refl) full
 
   pub moderate-ended : (seller : ℕ) → sellerTotal seller (set (contracts s) index contract) ≤ mostTotal
   moderate-ended seller =
-      omega (arith, sold-changed (s .sizes) (contracts s) (s .rows) (s .shortfalls) (chosen .admitted .sound) seller index contract inside,
-        sells-none seller contract idle, moderate-told s (chosen .admitted) within seller)
+      omega (
+        arith,
+        sold-changed (s .sizes) (contracts s) (s .rows) (s .shortfalls) (chosen .admitted .sound) seller index contract inside,
+        sells-none seller contract idle,
+        moderate-told s (chosen .admitted) within seller,
+      )
 
   pub finished : (k : Kind V) → Laws (joins k) → (t : State V) → t .taken ≡ s .taken → t .sizes ≡ s .sizes → t .rows ≡ s .rows → t .shortfalls ≡ s .shortfalls
-    → (short : ℕ) → short ≡ shortfallOf s (contract .terms .seller)
-    → Settled k (s .sizes) (s .taken) (contract .terms .seller) short (set (contracts s) index contract) (s .rows) (s .places) (t .places) (s .board) (t .board)
-    → Finished k number s t
+      → (short : ℕ) → short ≡ shortfallOf s (contract .terms .seller)
+      → Settled k (s .sizes) (s .taken) (contract .terms .seller) short (set (contracts s) index contract) (s .rows) (s .places) (t .places) (s .board) (t .board)
+      → Finished k number s t
   finished k laws t taken sizes rows shortfalls short is settled =
       let at = same-terms in
       let owed : short ≡ shortfallOf t (contract .terms .seller) = is ∙ ap (λ (f : List ℕ). getD f (contract .terms .seller - 1) 0) (sym shortfalls) in
       let named : Settled k (s .sizes) (s .taken) (here .terms .seller) (shortfallOf t (here .terms .seller)) (set (contracts s) index (ended here)) (s .rows) (s .places) (t .places) (s .board) (t .board)
-            = subst (λ (c : Contract). Settled k (s .sizes) (s .taken) (c .terms .seller) (shortfallOf t (c .terms .seller)) (set (contracts s) index c) (s .rows) (s .places) (t .places) (s .board) (t .board)) (chosen .is)
-                (subst (λ (n : ℕ). Settled k (s .sizes) (s .taken) (contract .terms .seller) n (set (contracts s) index contract) (s .rows) (s .places) (t .places) (s .board) (t .board)) owed settled) in
+      = subst (λ (c : Contract). Settled k (s .sizes) (s .taken) (c .terms .seller) (shortfallOf t (c .terms .seller)) (set (contracts s) index c) (s .rows) (s .places) (t .places) (s .board) (t .board)) (chosen .is)
+      (subst (λ (n : ℕ). Settled k (s .sizes) (s .taken) (contract .terms .seller) n (set (contracts s) index contract) (s .rows) (s .places) (t .places) (s .board) (t .board)) owed settled) in
       record {
         index = index;
         found = chosen .found;
         rows = rows;
         shortfalls = shortfalls;
         settled = resettled k laws s t (s .rows) (here .terms .seller) (set (contracts s) index (ended here)) taken sizes (room s (chosen .admitted) within)
-          (λ i lt force. refl) (λ i lt force. ap (λ (rs : List ℕ). rowOf (s .sizes .hours) rs i) (sym rows) ∙ ap (λ z. rowOf (z .hours) (t .rows) i) (sym sizes)) named }
+            (λ i lt force. refl) (λ i lt force. ap (λ (rs : List ℕ). rowOf (s .sizes .hours) rs i) (sym rows) ∙ ap (λ z. rowOf (z .hours) (t .rows) i) (sym sizes)) named;
+      }
 
 -- a shortfall that was told stands in the place of the earlier one
 module _ {V : Type 0} (s t : State V) (admitted : Admitted s) (within : s .taken ≤ s .sizes .places) (agent kwh : ℕ) (low : 1 ≤ agent) (high : agent ≤ s .sizes .agents) where
@@ -96,13 +101,14 @@ module _ {V : Type 0} (s t : State V) (admitted : Admitted s) (within : s .taken
   there = omega (arith, admitted .shortfalls)
 
   pub noted : (k : Kind V) → Laws (joins k) → t .taken ≡ s .taken → t .sizes ≡ s .sizes → t .rows ≡ s .rows → t .shortfalls ≡ set (s .shortfalls) (agent - 1) kwh
-    → Settled k (s .sizes) (s .taken) agent kwh (contracts s) (s .rows) (s .places) (t .places) (s .board) (t .board)
-    → Noted k agent kwh s t
+      → Settled k (s .sizes) (s .taken) agent kwh (contracts s) (s .rows) (s .places) (t .places) (s .board) (t .board)
+      → Noted k agent kwh s t
   noted k laws taken sizes rows shortfalls settled =
       let owed : kwh ≡ shortfallOf t agent = sym (ap (λ (f : List ℕ). getD f (agent - 1) 0) shortfalls ∙ getD-set-same (s .shortfalls) (agent - 1) kwh 0 there) in
       record {
         rows = rows;
         shortfalls = shortfalls;
         settled = resettled k laws s t (s .rows) agent (contracts s) taken sizes (room s admitted within)
-          (λ i lt force. refl) (λ i lt force. ap (λ (rs : List ℕ). rowOf (s .sizes .hours) rs i) (sym rows) ∙ ap (λ z. rowOf (z .hours) (t .rows) i) (sym sizes))
-          (subst (λ (n : ℕ). Settled k (s .sizes) (s .taken) agent n (contracts s) (s .rows) (s .places) (t .places) (s .board) (t .board)) owed settled) }
+            (λ i lt force. refl) (λ i lt force. ap (λ (rs : List ℕ). rowOf (s .sizes .hours) rs i) (sym rows) ∙ ap (λ z. rowOf (z .hours) (t .rows) i) (sym sizes))
+            (subst (λ (n : ℕ). Settled k (s .sizes) (s .taken) agent n (contracts s) (s .rows) (s .places) (t .places) (s .board) (t .board)) owed settled);
+      }

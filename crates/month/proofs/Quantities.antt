@@ -30,7 +30,7 @@ same-place : (a b : ℕ) → _≡_ {A = Option ℕ} (Some a) (Some b) → a ≡ 
 same-place a b e = cc
 
 module _ {V : Type 0} (s : State V) (number index : ℕ) (contract : Contract) (chosen : Chosen s number (λ c. c) index contract)
-  (force : inForce contract ≡ true) (within : s .taken ≤ s .sizes .places) where
+    (force : inForce contract ≡ true) (within : s .taken ≤ s .sizes .places) where
   inside : index < length (contracts s)
   inside = omega (arith, chosen .inside, long s (chosen .admitted) within)
 
@@ -53,8 +53,8 @@ module _ {V : Type 0} (s : State V) (number index : ℕ) (contract : Contract) (
       sym (part-fine (contract .effective) row most (sym (check-fine row (omega (arith, total, amount .0)) (omega (arith, total, amount .1)))))
 
   pub quantity-is : (r : Result ℕ Fault) (row : List ℕ) (hour : ℕ) → row ≡ rowAt s index
-    → made r (λ q. q ≡ weightAt (sharesOf downTo (contract .effective) row) hour)
-    → made r (λ q. (place : ℕ) → placeOf number (contracts s) ≡ Some place → q ≡ quantityAt s place hour)
+      → made r (λ q. q ≡ weightAt (sharesOf downTo (contract .effective) row) hour)
+      → made r (λ q. (place : ℕ) → placeOf number (contracts s) ≡ Some place → q ≡ quantityAt s place hour)
   quantity-is r row hour e = made-weaker r _ _ (λ q is place found.
       let p : place ≡ index + 1 = same-place place (index + 1) (sym found ∙ chosen .found) in
       let i : index ≡ place - 1 = omega (arith, p) in

@@ -21,10 +21,10 @@ past : (n : ℕ) (xs : List Contract) → postOf 0 (n - 0) xs ≡ drop n xs
 past n xs = post-is 0 n xs (omega arith)
 
 module _ {V : Type 0} (k : Kind V) (sizes : Sizes) (taken seller short : ℕ) (marked : List Contract) (rows : List ℕ) (old front : List Contract) (before after : List V)
-  (room : taken ≤ length old) (long : length front ≡ length (take (taken - 0) old)) where
+    (room : taken ≤ length old) (long : length front ≡ length (take (taken - 0) old)) where
   pub settled-by : front ≡ recut rounding seller short marked
-    → Revised k rounding (booked sizes (take (taken - 0) old) rows before) (booked sizes front rows after)
-    → Settled k sizes taken seller short marked rows old (front ++ postOf 0 (taken - 0) old) before after
+      → Revised k rounding (booked sizes (take (taken - 0) old) rows before) (booked sizes front rows after)
+      → Settled k sizes taken seller short marked rows old (front ++ postOf 0 (taken - 0) old) before after
   settled-by is board =
       let n : length front ≡ taken = long ∙ ap length (from-start taken old) ∙ length-take-le taken old room in
       let whole : front ++ postOf 0 (taken - 0) old ≡ front ++ drop taken old = ap (λ (xs : List Contract). front ++ xs) (past taken old) in
@@ -34,4 +34,5 @@ module _ {V : Type 0} (k : Kind V) (sizes : Sizes) (taken seller short : ℕ) (m
         others = drop-at front _ taken n ∙ past taken old;
         long = ap length whole ∙ length-append front (drop taken old) ∙ omega (arith, n, length-drop taken old);
         board = subst (λ (cs : List Contract). Revised k rounding (booked sizes cs rows before) (booked sizes (take taken (front ++ postOf 0 (taken - 0) old)) rows after)) (from-start taken old)
-          (subst (λ (cs : List Contract). Revised k rounding (booked sizes (take (taken - 0) old) rows before) (booked sizes cs rows after)) (sym head) board) }
+            (subst (λ (cs : List Contract). Revised k rounding (booked sizes (take (taken - 0) old) rows before) (booked sizes cs rows after)) (sym head) board);
+      }

@@ -41,12 +41,12 @@ supply hours t weights e =
 
 -- so its sharing is not refused either
 pub share-passes : (hours n : ℕ) (t : Terms) (weights : List ℕ) → Supply hours t weights → t .amount ≤ limit → n ≡ hours
-  → shareCheck (t .amount) n (clipped (t .first) (t .last) weights) ≡ None
+    → shareCheck (t .amount) n (clipped (t .first) (t .last) weights) ≡ None
 share-passes hours n t weights s low e =
     sym (share-fine (t .amount) n (clipped (t .first) (t .last) weights) low (e ∙ sym (length-clippedFrom 1 (t .first) (t .last) weights ∙ s .long)) (sym (s .weighs)))
 
 pub shared-row : {X : Type 0} (q n : ℕ) (ws row before : List ℕ) (r : Result X Fault) → shareCheck q n ws ≡ None → refusalOf r ≡ shareCheck q n ws
-  → Cases r (λ _. Shared downTo q ws row) (λ _. row ≡ before) → row ≡ sharesOf rounding q ws
+    → Cases r (λ _. Shared downTo q ws row) (λ _. row ≡ before) → row ≡ sharesOf rounding q ws
 shared-row q n ws row before (Ok x) none e s = s .parts
 shared-row q n ws row before (Err f) none e s = absurd (let z : _≡_ {A = ℕ} 0 1 = cc in omega arith)
 

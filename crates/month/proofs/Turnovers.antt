@@ -46,7 +46,7 @@ moderate true e h = h
 moderate false e h = omega arith
 
 module _ (agent : ℕ) (taken : List Contract) (parts : List Turnover) (filled : Filled agent taken parts (length taken)) (few : length taken ≤ 256)
-  (low : (i : ℕ) → i < length taken → getD taken i blank .effective ≤ 1000000000) where
+    (low : (i : ℕ) → i < length taken → getD taken i blank .effective ≤ 1000000000) where
   at : (k : ℕ) → k < length taken → getD (map turnoverValue parts) (0 + k * 1) noWords ≡ (word (soldIn agent (getD taken k blank)), word (boughtIn agent (getD taken k blank)))
   at k lt =
       ap (λ (i : ℕ). getD (map turnoverValue parts) i noWords) (let e : 0 + k * 1 ≡ k = omega arith in e)
@@ -61,7 +61,7 @@ module _ (agent : ℕ) (taken : List Contract) (parts : List Turnover) (filled :
     where
       one : (f : Contract → ℕ) → upTo wordJoins (length taken) (λ k. word (f (getD taken k blank))) ≡ word (sumBy f taken)
       one f = up-word (length taken) (λ k. f (getD taken k blank))
-        ∙ ap word (up-list f taken blank (length taken) (omega arith) ∙ ap (sumBy f) (take-all (length taken) taken (omega arith)))
+          ∙ ap word (up-list f taken blank (length taken) (omega arith) ∙ ap (sumBy f) (take-all (length taken) taken (omega arith)))
 
   small : (f : Contract → ℕ) → ((i : ℕ) → i < length taken → f (getD taken i blank) ≤ 1000000000) → sumBy f taken ≤ 256000000000
   small f le =
@@ -76,6 +76,6 @@ module _ (agent : ℕ) (taken : List Contract) (parts : List Turnover) (filled :
   bought-most = small (boughtIn agent) (λ i lt. moderate _ _ (low i lt))
 
   pub turned-over : (r : Turnover) → r .sold < 2 ^ 64 → r .bought < 2 ^ 64
-    → turnoverValue r ≡ upTo bothJoins (length taken) (λ k. getD (map turnoverValue parts) (0 + k * 1) noWords)
-    → (r .sold ≡ sold agent taken) × (r .bought ≡ bought agent taken)
+      → turnoverValue r ≡ upTo bothJoins (length taken) (λ k. getD (map turnoverValue parts) (0 + k * 1) noWords)
+      → (r .sold ≡ sold agent taken) × (r .bought ≡ bought agent taken)
   turned-over r s b e = turnover-exact r (sold agent taken) (bought agent taken) s b (omega (arith, sold-most)) (omega (arith, bought-most)) (e ∙ sums)

@@ -3,19 +3,19 @@ ghost use Prim.Native.Nat.{_≤_};
 use book::sizes::Sizes;
 use std::marker::PhantomData;
 
+mod admission;
 pub mod certifying;
 pub mod closing;
 pub mod confirming;
-mod admission;
 pub mod ending;
 mod events;
-pub mod opening;
 pub mod offering;
+pub mod opening;
 pub mod positions;
 pub mod quantities;
 pub mod questions;
-pub mod sizing;
 mod settling;
+pub mod sizing;
 pub mod telling;
 
 // An open month takes offers, confirmations, endings and shortfalls.

@@ -17,8 +17,16 @@ fn turnover_in(contract: &Contract, agent: u16) -> Turnover
     let effective = contract.effective as u64;
     let in_force = contract.in_force();
     Turnover {
-        sold: if in_force && contract.terms.seller == agent { effective } else { 0 },
-        bought: if in_force && contract.terms.buyer == agent { effective } else { 0 },
+        sold: if in_force && contract.terms.seller == agent {
+            effective
+        } else {
+            0
+        },
+        bought: if in_force && contract.terms.buyer == agent {
+            effective
+        } else {
+            0
+        },
     }
 }
 

@@ -31,8 +31,8 @@ pub recut-passes : {X : Type 0} (seller : ℕ) (cs : List Contract) (r : Result 
 recut-passes seller cs (Ok x) P Q S few low e p so = so x p
 recut-passes seller cs (Err f) P Q S few low e p so =
     let none : recutCheck seller cs ≡ None =
-          ap (λ (b : Bool). firstOf (unless b 1 1 ∷ unless (leb (sellerTotal seller cs) mostTotal) 15 0 ∷ [])) (le-leb _ _ few)
-          ∙ ap (λ (b : Bool). firstOf (unless b 15 0 ∷ [])) (le-leb _ _ low) in
+    ap (λ (b : Bool). firstOf (unless b 1 1 ∷ unless (leb (sellerTotal seller cs) mostTotal) 15 0 ∷ [])) (le-leb _ _ few)
+    ∙ ap (λ (b : Bool). firstOf (unless b 15 0 ∷ [])) (le-leb _ _ low) in
     absurd (let z : _≡_ {A = ℕ} 0 1 = cc in omega arith)
 
 module _ (rule : Rule) (seller short : ℕ) (z : Sizes) (old cs : List Contract) (rows : List ℕ) (entries : ℕ) (ready : Ready z old cs rows entries) where

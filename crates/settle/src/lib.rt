@@ -218,5 +218,13 @@ pub fn settle_place<E: Reversible>(
     let after = &mut room[0..taken.len()];
     after.copy_from_slice(taken);
     after[index] = changed;
-    resettle(sizes, taken, after, changed.terms.seller, shortfall, rows, board);
+    resettle(
+        sizes,
+        taken,
+        after,
+        changed.terms.seller,
+        shortfall,
+        rows,
+        board,
+    );
 }

@@ -12,11 +12,28 @@ use entry::joining::Joining;
 use scale::fault::Fault;
 
 impl<P> Month<P> {
-    pub(super) fn admit<E: Joining>(&self, places: &[Contract], rows: &[u32], shortfalls: &[u64], board: &[E]) -> Result<(), Fault>
+    pub(super) fn admit<E: Joining>(
+        &self,
+        places: &[Contract],
+        rows: &[u32],
+        shortfalls: &[u64],
+        board: &[E],
+    ) -> Result<(), Fault>
         ensures refused { λ r. ⌜ refusalOf r ≡ admitted (stateOf E·Joining (now (self .entry)) (now (places .entry)) (now (rows .entry)) (now (shortfalls .entry)) (now (board .entry))) ⌝ }
         ensures sound { λ r. ⌜ made r (λ _. Admitted (stateOf E·Joining (now (self .entry)) (now (places .entry)) (now (rows .entry)) (now (shortfalls .entry)) (now (board .entry)))) ⌝ }
     {
-        check_lengths(&self.sizes, places.len(), rows.len(), shortfalls.len(), board.len())?;
-        examine(&self.sizes, &places[0..self.taken as usize], rows, shortfalls)
+        check_lengths(
+            &self.sizes,
+            places.len(),
+            rows.len(),
+            shortfalls.len(),
+            board.len(),
+        )?;
+        examine(
+            &self.sizes,
+            &places[0..self.taken as usize],
+            rows,
+            shortfalls,
+        )
     }
 }

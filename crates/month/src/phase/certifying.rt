@@ -20,7 +20,15 @@ const PAGE: usize = 64;
 
 impl Month<Closed> {
     // Writes an agent's certificate line to the front of a page, whose rest stays, and answers the line's length in bytes.
-    pub fn certificate<E: Joining>(&self, places: &[Contract], rows: &[u32], shortfalls: &[u64], board: &[E], agent: u16, page: &mut [u8]) -> Result<usize, Fault>
+    pub fn certificate<E: Joining>(
+        &self,
+        places: &[Contract],
+        rows: &[u32],
+        shortfalls: &[u64],
+        board: &[E],
+        agent: u16,
+        page: &mut [u8],
+    ) -> Result<usize, Fault>
         ensures answer { λ r. ⌜ refusalOf r ≡ certificateRefusal (stateOf E·Joining (now (self .entry)) (now (places .entry)) (now (rows .entry)) (now (shortfalls .entry)) (now (board .entry))) agent (length (now (page .entry))) ⌝ }
         ensures line { λ r. ⌜ Cases r
             (λ n. Fronted (certified (stateOf E·Joining (now (self .entry)) (now (places .entry)) (now (rows .entry)) (now (shortfalls .entry)) (now (board .entry))) agent) (now (page .entry)) (now (page .exit)) n)
@@ -28,7 +36,10 @@ impl Month<Closed> {
     {
         let (sold, bought) = self.turnover(places, rows, shortfalls, board, agent)?;
         if page.len() < PAGE {
-            return Err(Fault { reason: Reason::PageShort, spot: 0 });
+            return Err(Fault {
+                reason: Reason::PageShort,
+                spot: 0,
+            });
         }
         Ok(put_line(page, agent, sold, bought))
     }

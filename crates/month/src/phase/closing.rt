@@ -31,9 +31,9 @@ impl<P> Month<P> {
     {
         let Month {
             sizes: _,
-            taken,
+            taken: count,
             phase: _,
         } = self;
-        taken
+        count
     }
 }

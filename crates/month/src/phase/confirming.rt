@@ -42,7 +42,13 @@ fn write_row<S: Scale>(rows: &mut [u32], index: usize, hours: usize, terms: &Ter
     ensures { λ _. ⌜ now (rows .exit) ≡ putRow hours index (sharesOf rounding (now (terms .entry) .amount) (clipped (now (terms .entry) .first) (now (terms .entry) .last) (S·Scale .weights (now (scale .entry))))) (now (rows .entry)) ⌝ }
 {
     let start = index * hours;
-    let _ = fill_row(terms.amount, scale, terms.first as usize, terms.last as usize, &mut rows[start..start + hours]);
+    let _ = fill_row(
+        terms.amount,
+        scale,
+        terms.first as usize,
+        terms.last as usize,
+        &mut rows[start..start + hours],
+    );
 }
 
 impl Month<Open> {
@@ -68,7 +74,11 @@ impl Month<Open> {
         let contract = places[place - 1];
         let state = next_state(&contract, Event::Confirmation, agent, place)?;
         contract.terms.weigh(self.sizes.hours() as usize, scale)?;
-        if !has_room(&places[0..self.taken as usize], contract.terms.seller, contract.terms.amount) {
+        if !has_room(
+            &places[0..self.taken as usize],
+            contract.terms.seller,
+            contract.terms.amount,
+        ) {
             return Err(Fault {
                 reason: Reason::SellerOverLimit,
                 spot: place,
@@ -93,9 +103,22 @@ impl Month<Open> {
             (stateOf E·Joining (now (self .entry)) (now (places .entry)) (now (rows .entry)) (now (shortfalls .entry)) (now (board .entry)))
             (stateOf E·Joining (now (self .entry)) (now (places .exit)) (now (rows .exit)) (now (shortfalls .entry)) (now (board .exit))) ⌝ }
     {
-        let (index, contract) =
-            self.choose_confirmation(places, rows, shortfalls, board, number, agent, scale)?;
-        write_row(rows, index, self.sizes.hours() as usize, &contract.terms, scale);
+        let (index, contract) = self.choose_confirmation(
+            places,
+            rows,
+            shortfalls,
+            board,
+            number,
+            agent,
+            scale,
+        )?;
+        write_row(
+            rows,
+            index,
+            self.sizes.hours() as usize,
+            &contract.terms,
+            scale,
+        );
         let shortfall = shortfall_of(shortfalls, contract.terms.seller);
         self.settle_at(places, index, contract, shortfall, rows, board);
         Ok(())

@@ -13,7 +13,12 @@ use scale::fault::Fault;
 use scale::fault::Reason;
 
 // The state that an event leads the contract at a place to, if the agent is allowed the event and the present state fits it.
-pub(super) fn next_state(contract: &Contract, event: Event, agent: u16, place: usize) -> Result<State, Fault>
+pub(super) fn next_state(
+    contract: &Contract,
+    event: Event,
+    agent: u16,
+    place: usize,
+) -> Result<State, Fault>
     ensures refused { λ r. ⌜ refusalOf r ≡ firstOf (unless (allowed event (now (contract .entry) .terms) agent) 9 place ∷ unless (isSome (nextState (now (contract .entry) .state) event)) 10 place ∷ []) ⌝ }
     ensures next { λ r. ⌜ made r (λ n. nextState (now (contract .entry) .state) event ≡ Some n) ⌝ }
 {

@@ -22,7 +22,10 @@ fn unused(taken: &[Contract], offer: &Offer) -> Result<(), Fault>
     ensures { λ r. ⌜ refusalOf r ≡ free (placeOf (now (offer .entry) .number) (now (taken .entry))) ⌝ }
 {
     match find(taken, offer.number) {
-        Some(spot) => Err(Fault { reason: Reason::NumberTaken, spot }),
+        Some(spot) => Err(Fault {
+            reason: Reason::NumberTaken,
+            spot,
+        }),
         None => Ok(()),
     }
 }

@@ -41,7 +41,7 @@ impl Month<Open> {
         ensures answer { λ r. ⌜ refusalOf r ≡ openRefusal agents hours size (length (now (places .entry))) (length (now (rows .entry))) (length (now (shortfalls .entry))) (length (now (board .entry))) ⌝ }
         ensures opened { λ r. ⌜ Cases r
             (λ m. Holds (m .sizes) agents hours size × Opened (meaning E·Joining E·Reversible) (stateOf E·Joining m (now (places .entry)) (now (rows .entry)) (now (shortfalls .exit)) (now (board .exit)))
-                × Begins (meaning E·Joining E·Reversible) (stateOf E·Joining m (now (places .entry)) (now (rows .entry)) (now (shortfalls .exit)) (now (board .exit))))
+            × Begins (meaning E·Joining E·Reversible) (stateOf E·Joining m (now (places .entry)) (now (rows .entry)) (now (shortfalls .exit)) (now (board .exit))))
             (λ _. (now (shortfalls .exit) ≡ now (shortfalls .entry)) × (now (board .exit) ≡ now (board .entry))) ⌝ }
     {
         let sizes = Sizes::new(agents, hours, size)?;

@@ -30,13 +30,25 @@ use scale::fault::Reason;
 
 impl<P> Month<P> {
     // The board's entry of an agent at a submarket and hour.
-    fn entry_at<E: Joining>(&self, board: &[E], agent: u16, submarket: u16, hour: u16) -> Result<E, Fault>
+    fn entry_at<E: Joining>(
+        &self,
+        board: &[E],
+        agent: u16,
+        submarket: u16,
+        hour: u16,
+    ) -> Result<E, Fault>
         ensures answer { λ r. ⌜ refusalOf r ≡ positionRefusal (now (self .entry) .sizes) (length (now (board .entry))) agent submarket hour ⌝ }
         ensures entry { λ r. ⌜ made r (λ e. e ≡ getD (now (board .entry)) (entryIndex (now (self .entry) .sizes) agent submarket hour) e) ⌝ }
     {
         check_board(&self.sizes, board.len())?;
         let hours = self.sizes.hours();
-        limit(agent as u32, 1, self.sizes.agents() as u32, Reason::FieldOutside, 1)?;
+        limit(
+            agent as u32,
+            1,
+            self.sizes.agents() as u32,
+            Reason::FieldOutside,
+            1,
+        )?;
         limit(submarket as u32, 1, 4, Reason::FieldOutside, 2)?;
         limit(hour as u32, 1, hours as u32, Reason::FieldOutside, 3)?;
         let lane = (agent as usize - 1) * 4 + (submarket as usize - 1);
@@ -58,7 +70,13 @@ impl<P> Month<P> {
     }
 
     // An agent's position: the board's entry at a submarket and hour. In every life it means the ledger's position.
-    pub fn position<E: Reversible>(&self, board: &[E], agent: u16, submarket: u16, hour: u16) -> Result<E, Fault>
+    pub fn position<E: Reversible>(
+        &self,
+        board: &[E],
+        agent: u16,
+        submarket: u16,
+        hour: u16,
+    ) -> Result<E, Fault>
         ensures answer { λ r. ⌜ refusalOf r ≡ positionRefusal (now (self .entry) .sizes) (length (now (board .entry))) agent submarket hour ⌝ }
         ensures entry { λ r. ⌜ made r (λ e. e ≡ getD (now (board .entry)) (entryIndex (now (self .entry) .sizes) agent submarket hour) e) ⌝ }
         ensures lived { λ r. ⌜ made r (λ e. InEveryLife (meaning E·Joining E·Reversible) (now (self .entry) .sizes) (values E·Joining (now (board .entry)))
@@ -79,18 +97,30 @@ impl<P> Month<P> {
     }
 
     // A net position as a number. In every life it is the true difference of what the agent sold and bought there: nothing wraps.
-    pub fn net_position(&self, board: &[Net], agent: u16, submarket: u16, hour: u16) -> Result<Net, Fault>
+    pub fn net_position(
+        &self,
+        board: &[Net],
+        agent: u16,
+        submarket: u16,
+        hour: u16,
+    ) -> Result<Net, Fault>
         ensures answer { λ r. ⌜ refusalOf r ≡ positionRefusal (now (self .entry) .sizes) (length (now (board .entry))) agent submarket hour ⌝ }
         ensures entry { λ r. ⌜ made r (λ e. e ≡ getD (now (board .entry)) (entryIndex (now (self .entry) .sizes) agent submarket hour) e) ⌝ }
         ensures lived { λ r. ⌜ made r (λ e. InEveryLife netKind (now (self .entry) .sizes) (map netValue (now (board .entry)))
             (λ past. e .units ≡ differenceIn (ledger past) (λ _. true) agent submarket hour)) ⌝ }
     {
-        let entry = self.entry_at(board, agent, submarket, hour)?;
-        Ok(entry)
+        let net = self.entry_at(board, agent, submarket, hour)?;
+        Ok(net)
     }
 
     // The same by source: the difference of the conventional quantities, and that of the incentivised ones.
-    pub fn position_by_source(&self, board: &[BySource], agent: u16, submarket: u16, hour: u16) -> Result<BySource, Fault>
+    pub fn position_by_source(
+        &self,
+        board: &[BySource],
+        agent: u16,
+        submarket: u16,
+        hour: u16,
+    ) -> Result<BySource, Fault>
         ensures answer { λ r. ⌜ refusalOf r ≡ positionRefusal (now (self .entry) .sizes) (length (now (board .entry))) agent submarket hour ⌝ }
         ensures entry { λ r. ⌜ made r (λ e. e ≡ getD (now (board .entry)) (entryIndex (now (self .entry) .sizes) agent submarket hour) e) ⌝ }
         ensures lived { λ r. ⌜ made r (λ e. InEveryLife bySourceKind (now (self .entry) .sizes) (map bySourceValue (now (board .entry)))

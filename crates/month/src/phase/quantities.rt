@@ -41,7 +41,13 @@ impl<P> Month<P> {
         let Some(place) = find(&places[0..self.taken as usize], number) else {
             return Err(absent());
         };
-        limit(hour as u32, 1, self.sizes.hours() as u32, Reason::FieldOutside, 2)?;
+        limit(
+            hour as u32,
+            1,
+            self.sizes.hours() as u32,
+            Reason::FieldOutside,
+            2,
+        )?;
         let contract = places[place - 1];
         if !contract.in_force() {
             return Err(Fault {
@@ -65,10 +71,20 @@ impl<P> Month<P> {
         ensures answer { λ r. ⌜ refusalOf r ≡ quantityRefusal (stateOf E·Joining (now (self .entry)) (now (places .entry)) (now (rows .entry)) (now (shortfalls .entry)) (now (board .entry))) number hour ⌝ }
         ensures quantity { λ r. ⌜ made r (λ q. (place : ℕ) → placeOf number (contracts (stateOf E·Joining (now (self .entry)) (now (places .entry)) (now (rows .entry)) (now (shortfalls .entry)) (now (board .entry)))) ≡ Some place → q ≡ quantityAt (stateOf E·Joining (now (self .entry)) (now (places .entry)) (now (rows .entry)) (now (shortfalls .entry)) (now (board .entry))) place hour) ⌝ }
     {
-        let (index, contract) =
-            self.choose_quantity(places, rows, shortfalls, board, number, hour)?;
+        let (index, contract) = self.choose_quantity(
+            places,
+            rows,
+            shortfalls,
+            board,
+            number,
+            hour,
+        )?;
         let hours = self.sizes.hours() as usize;
         let start = index * hours;
-        scale::share::quantity(contract.effective, &rows[start..start + hours], hour as usize)
+        scale::share::quantity(
+            contract.effective,
+            &rows[start..start + hours],
+            hour as usize,
+        )
     }
 }

@@ -45,7 +45,15 @@ impl<P> Month<P> {
             (set (take (now (self .entry) .taken) (now (places .entry))) index changed) (now (rows .entry))
             (now (places .entry)) (now (places .exit)) (values E·Joining (now (board .entry))) (values E·Joining (now (board .exit))) ⌝ }
     {
-        settle_place(&self.sizes, &mut places[0..self.taken as usize], index, changed, shortfall, rows, board);
+        settle_place(
+            &self.sizes,
+            &mut places[0..self.taken as usize],
+            index,
+            changed,
+            shortfall,
+            rows,
+            board,
+        );
     }
 
     // After a shortfall was told.
@@ -64,6 +72,13 @@ impl<P> Month<P> {
             (take (now (self .entry) .taken) (now (places .entry))) (now (rows .entry))
             (now (places .entry)) (now (places .exit)) (values E·Joining (now (board .entry))) (values E·Joining (now (board .exit))) ⌝ }
     {
-        settle_all(&self.sizes, &mut places[0..self.taken as usize], seller, shortfall, rows, board);
+        settle_all(
+            &self.sizes,
+            &mut places[0..self.taken as usize],
+            seller,
+            shortfall,
+            rows,
+            board,
+        );
     }
 }

@@ -31,7 +31,13 @@ impl Month<Open> {
             (stateOf E·Joining (now (self .entry)) (now (places .exit)) (now (rows .entry)) (now (shortfalls .exit)) (now (board .exit))) ⌝ }
     {
         self.admit(places, rows, shortfalls, board)?;
-        limit(agent as u32, 1, self.sizes.agents() as u32, Reason::FieldOutside, 1)?;
+        limit(
+            agent as u32,
+            1,
+            self.sizes.agents() as u32,
+            Reason::FieldOutside,
+            1,
+        )?;
         if !moderate(kwh) {
             return Err(Fault {
                 reason: Reason::ShortfallOverLimit,

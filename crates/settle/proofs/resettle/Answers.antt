@@ -15,18 +15,19 @@ pub follow-requires : need.follow-requires
 follow-requires g c κs =
     let a = c .args in
     let is : c .recut .last .taken ≡ recut rounding (a .seller) (a .shortfall) (a .after .now)
-        = recut-passes (a .seller) (a .after .now) (c .recut .result) _ _ _ (c .pre .places) (c .pre .moderate) (c .recut .ensures .refused) (c .recut .ensures .memory) (λ _ e. e) in
+    = recut-passes (a .seller) (a .after .now) (c .recut .result) _ _ _ (c .pre .places) (c .pre .moderate) (c .recut .ensures .refused) (c .recut .ensures .memory) (λ _ e. e) in
     subst (λ (cs : List Contract). Ready (a .sizes .now) (a .taken .now) cs (a .rows .now) (length (a .board .now))) (sym is)
-      (ready-recut rounding (a .seller) (a .shortfall) (a .sizes .now) (a .taken .now) (a .after .now) (a .rows .now) _ (c .pre .ready))
+    (ready-recut rounding (a .seller) (a .shortfall) (a .sizes .now) (a .taken .now) (a .after .now) (a .rows .now) _ (c .pre .ready))
 
 pub returns : need.returns
 returns g c =
     let a = c .args in
     let j = g .E·Joining in
     let is : c .recut .last .taken ≡ recut rounding (a .seller) (a .shortfall) (a .after .now)
-        = recut-passes (a .seller) (a .after .now) (c .recut .result) _ _ _ (c .pre .places) (c .pre .moderate) (c .recut .ensures .refused) (c .recut .ensures .memory) (λ _ e. e) in
+    = recut-passes (a .seller) (a .after .now) (c .recut .result) _ _ _ (c .pre .places) (c .pre .moderate) (c .recut .ensures .refused) (c .recut .ensures .memory) (λ _ e. e) in
     record {
       taken = c .follow .ensures .taken ∙ is;
       board = subst (λ (cs : List Contract). Revised (meaning j (g .E·Reversible)) rounding
-        (booked (a .sizes .now) (a .taken .now) (a .rows .now) (values j (a .board .now)))
-        (booked (a .sizes .now) cs (a .rows .now) (values j (c .follow .last .board)))) (sym (c .follow .ensures .taken)) (c .follow .ensures .board) }
+          (booked (a .sizes .now) (a .taken .now) (a .rows .now) (values j (a .board .now)))
+          (booked (a .sizes .now) cs (a .rows .now) (values j (c .follow .last .board)))) (sym (c .follow .ensures .taken)) (c .follow .ensures .board);
+    }

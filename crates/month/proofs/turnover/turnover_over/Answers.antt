@@ -22,7 +22,8 @@ loop-i-again c =
     let is = part-is (c .turnover-in .result) _ _ (c .turnover-in .ensures .sold) (c .turnover-in .ensures .bought) in
     record {
       long = length-set ps i _ ∙ c .loop-i .inv .long;
-      below = λ k lt. ap (λ t. getD (set ps i t) k none) is ∙ fill-by-more (λ k. part agent (getD cs k blank)) ps i none here (c .loop-i .inv .below) k lt }
+      below = λ k lt. ap (λ t. getD (set ps i t) k none) is ∙ fill-by-more (λ k. part agent (getD cs k blank)) ps i none here (c .loop-i .inv .below) k lt;
+    }
 
 pub returns : need.returns
 returns c =

@@ -15,4 +15,5 @@ returns g c =
     record {
       refused = c .examine .ensures .refused ∙ book-decides j (a .self .now) (a .places .now) (a .rows .now) (a .shortfalls .now) (a .board .now) n;
       sound = made-of (c .examine .result) _ _ _
-        (λ _ sound. admits j (a .self .now) (a .places .now) (a .rows .now) (a .shortfalls .now) (a .board .now) n sound) (c .examine .ensures .sound) }
+          (λ _ sound. admits j (a .self .now) (a .places .now) (a .rows .now) (a .shortfalls .now) (a .board .now) n sound) (c .examine .ensures .sound);
+    }

@@ -12,4 +12,5 @@ returns g c =
       answer = c .joined-at .ensures .answer;
       joined = c .joined-at .ensures .joined;
       lived = balance-lived (meaning j (g .E·Reversible)) (lawful (g .E·Joining·met .assoc) (g .E·Joining·met .comm) (g .E·Joining·met .unit))
-        (j .value) (a .self .now .sizes) (a .board .now) (a .submarket) (a .hour) (c .joined-at .result) (c .joined-at .ensures .answer) (c .joined-at .ensures .joined) }
+          (j .value) (a .self .now .sizes) (a .board .now) (a .submarket) (a .hour) (c .joined-at .result) (c .joined-at .ensures .answer) (c .joined-at .ensures .joined);
+    }

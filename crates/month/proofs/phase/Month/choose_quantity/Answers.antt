@@ -26,8 +26,10 @@ returns-in-Break-limit g c =
     rw (p .1, p .2) (record {
       refused = sym (quantity-decided (g .E·Joining) m (a .places .now) (a .rows .now) (a .shortfalls .now) (a .board .now) (a .number) (c .in-Some .place) (a .hour)
           (adm .refused) room (c .in-Some .ensures tt .place) (c .in-Some .ensures tt .first)
-        ∙ first-some _ _ _ (ap (λ (h : ℕ). unless (between 1 h (a .hour)) 4 2) (sym (c .hours .ensures)) ∙ sym (c .limit .ensures) ∙ ap refusalOf (c .in-Break-limit .was tt)));
-      chosen = tt; standing = tt })
+          ∙ first-some _ _ _ (ap (λ (h : ℕ). unless (between 1 h (a .hour)) 4 2) (sym (c .hours .ensures)) ∙ sym (c .limit .ensures) ∙ ap refusalOf (c .in-Break-limit .was tt)));
+      chosen = tt;
+      standing = tt;
+    })
 
 pub returns-then-not-in-force : need.returns-then-not-in-force
 returns-then-not-in-force g c =
@@ -38,9 +40,11 @@ returns-then-not-in-force g c =
     record {
       refused = sym (quantity-decided (g .E·Joining) m (a .places .now) (a .rows .now) (a .shortfalls .now) (a .board .now) (a .number) (c .in-Some .place) (a .hour)
           (adm .refused) room (c .in-Some .ensures tt .place) (c .in-Some .ensures tt .first)
-        ∙ first-none _ _ (ap (λ (h : ℕ). unless (between 1 h (a .hour)) 4 2) (sym (c .hours .ensures)) ∙ sym (c .limit .ensures) ∙ ap refusalOf (c .in-Continue-limit .was tt))
-        ∙ first-some _ [] _ (ap (λ (b : Bool). unless b 10 (c .in-Some .place)) (sym (c .in-force .ensures) ∙ c .if-not-in-force .taken)));
-      chosen = tt; standing = tt }
+          ∙ first-none _ _ (ap (λ (h : ℕ). unless (between 1 h (a .hour)) 4 2) (sym (c .hours .ensures)) ∙ sym (c .limit .ensures) ∙ ap refusalOf (c .in-Continue-limit .was tt))
+          ∙ first-some _ [] _ (ap (λ (b : Bool). unless b 10 (c .in-Some .place)) (sym (c .in-force .ensures) ∙ c .if-not-in-force .taken)));
+      chosen = tt;
+      standing = tt;
+    }
 
 pub returns : need.returns
 returns g c =
@@ -55,12 +59,14 @@ returns g c =
     record {
       refused = sym (quantity-decided j m (a .places .now) (a .rows .now) (a .shortfalls .now) (a .board .now) (a .number) place (a .hour)
           (adm .refused) room (c .in-Some .ensures tt .place) first
-        ∙ first-none _ _ (ap (λ (h : ℕ). unless (between 1 h (a .hour)) 4 2) (sym (c .hours .ensures)) ∙ sym (c .limit .ensures) ∙ ap refusalOf (c .in-Continue-limit .was tt))
-        ∙ first-none _ [] (ap (λ (b : Bool). unless b 10 place) force));
+          ∙ first-none _ _ (ap (λ (h : ℕ). unless (between 1 h (a .hour)) 4 2) (sym (c .hours .ensures)) ∙ sym (c .limit .ensures) ∙ ap refusalOf (c .in-Continue-limit .was tt))
+          ∙ first-none _ [] (ap (λ (b : Bool). unless b 10 place) force));
       chosen = record {
         admitted = adm .sound;
         found = found j m (a .places .now) (a .rows .now) (a .shortfalls .now) (a .board .now) (a .number) place (c .in-Some .ensures tt .place)
-          ∙ ap Some (place-up j m (a .places .now) (a .rows .now) (a .shortfalls .now) (a .board .now) room (a .number) place first);
+            ∙ ap Some (place-up j m (a .places .now) (a .rows .now) (a .shortfalls .now) (a .board .now) room (a .number) place first);
         inside = inside j m (a .places .now) (a .rows .now) (a .shortfalls .now) (a .board .now) room (a .number) place first;
-        is = at j m (a .places .now) (a .rows .now) (a .shortfalls .now) (a .board .now) room (a .number) place first };
-      standing = force }
+        is = at j m (a .places .now) (a .rows .now) (a .shortfalls .now) (a .board .now) room (a .number) place first;
+      };
+      standing = force;
+    }

@@ -14,13 +14,14 @@ use Rattle.month.proofs.phase.Month.net_position.Needs as need
 pub returns : need.returns
 returns g c =
     let a = c .args in
-    let e = c .in-Continue-entry .entry in
+    let e = c .in-Continue-net .net in
     let fits : SFits w64 (e .units) = search needs in
-    let said = c .in-Continue-entry .ensures tt .answer in
-    let read = c .in-Continue-entry .ensures tt .entry in
+    let said = c .in-Continue-net .ensures tt .answer in
+    let read = c .in-Continue-net .ensures tt .entry in
     record {
       answer = said;
       entry = read;
       lived = lived-at netKind netValue (a .self .now .sizes) (a .board .now) (a .agent) (a .submarket) (a .hour) e said read
-        (λ past. e .units ≡ differenceIn (ledger past) (λ _. true) (a .agent) (a .submarket) (a .hour))
-        (λ past s lived a1 aa m1 m4 h1 hh is. net-true past s lived (a .agent) (a .submarket) (a .hour) a1 aa m1 m4 h1 hh e fits is) }
+          (λ past. e .units ≡ differenceIn (ledger past) (λ _. true) (a .agent) (a .submarket) (a .hour))
+          (λ past s lived a1 aa m1 m4 h1 hh is. net-true past s lived (a .agent) (a .submarket) (a .hour) a1 aa m1 m4 h1 hh e fits is);
+    }

@@ -12,4 +12,5 @@ returns g c =
       answer = c .entry-at .ensures .answer;
       entry = c .entry-at .ensures .entry;
       lived = position-lived (meaning j (g .E·Reversible)) (j .value) (a .self .now .sizes) (a .board .now) (a .agent) (a .submarket) (a .hour)
-        (lawful (g .E·Joining·met .assoc) (g .E·Joining·met .comm) (g .E·Joining·met .unit)) (c .entry-at .result) (c .entry-at .ensures .answer) (c .entry-at .ensures .entry) }
+          (lawful (g .E·Joining·met .assoc) (g .E·Joining·met .comm) (g .E·Joining·met .unit)) (c .entry-at .result) (c .entry-at .ensures .answer) (c .entry-at .ensures .entry);
+    }

@@ -23,5 +23,6 @@ returns g c =
       answer = said;
       entry = read;
       lived = lived-at bySourceKind bySourceValue (a .self .now .sizes) (a .board .now) (a .agent) (a .submarket) (a .hour) e said read
-        (λ past. (e .conventional ≡ differenceIn (ledger past) (eqb 0) (a .agent) (a .submarket) (a .hour)) × (e .incentivised ≡ differenceIn (ledger past) (eqb 1) (a .agent) (a .submarket) (a .hour)))
-        (λ past s lived a1 aa m1 m4 h1 hh is. by-source-true past s lived (a .agent) (a .submarket) (a .hour) a1 aa m1 m4 h1 hh e fits fits′ is) }
+          (λ past. (e .conventional ≡ differenceIn (ledger past) (eqb 0) (a .agent) (a .submarket) (a .hour)) × (e .incentivised ≡ differenceIn (ledger past) (eqb 1) (a .agent) (a .submarket) (a .hour)))
+          (λ past s lived a1 aa m1 m4 h1 hh is. by-source-true past s lived (a .agent) (a .submarket) (a .hour) a1 aa m1 m4 h1 hh e fits fits′ is);
+    }

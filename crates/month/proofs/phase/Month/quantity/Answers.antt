@@ -16,7 +16,7 @@ part-quantity-end g c =
     let i = c .in-Continue-index .index in
     let chosen = c .in-Continue-index .ensures tt .chosen in
     let fits : i * c .hours-hours .result + c .hours-hours .result ≤ length (a .rows .now)
-          = subst (λ (h : ℕ). i * h + h ≤ length (a .rows .now)) (sym (c .hours-hours .ensures)) (row-fits s (chosen .admitted) (m .within) i (chosen .inside)) in
+    = subst (λ (h : ℕ). i * h + h ≤ length (a .rows .now)) (sym (c .hours-hours .ensures)) (row-fits s (chosen .admitted) (m .within) i (chosen .inside)) in
     search needs
 
 pub returns : need.returns
@@ -31,4 +31,5 @@ returns g c =
     let row = row-lent s (a .number) i x chosen force (m .within) (c .hours-hours .result) (c .hours-hours .ensures) in
     record {
       answer = c .quantity .ensures .answer ∙ fine s (a .number) i x chosen force (m .within) _ row ∙ c .in-Continue-index .ensures tt .refused;
-      quantity = quantity-is s (a .number) i x chosen force (m .within) (c .quantity .result) _ (a .hour) row (c .quantity .ensures .value) }
+      quantity = quantity-is s (a .number) i x chosen force (m .within) (c .quantity .result) _ (a .hour) row (c .quantity .ensures .value);
+    }

@@ -28,7 +28,8 @@ settle-place-requires g c κs =
       inside = subst (λ (cs : List Contract). i < length cs) (sym same) (omega (arith, n, c .pre .inside));
       ready = subst (λ (cs : List Contract). Ready (m .sizes) cs (set cs i x) (c .args .rows .now) (length (c .args .board .now))) (sym same) (c .pre .ready);
       places = subst (λ (cs : List Contract). length cs ≤ mostPlaces) (sym same) most;
-      moderate = subst (λ (cs : List Contract). sellerTotal (x .terms .seller) (set cs i x) ≤ mostTotal) (sym same) (c .pre .moderate) }
+      moderate = subst (λ (cs : List Contract). sellerTotal (x .terms .seller) (set cs i x) ≤ mostTotal) (sym same) (c .pre .moderate);
+    }
 
 pub returns : need.returns
 returns g c =
@@ -36,5 +37,5 @@ returns g c =
     let ps = c .args .places .now in
     let j = g .E·Joining in
     settled-by (meaning j (g .E·Reversible)) (m .sizes) (m .taken) (c .args .changed .terms .seller) (c .args .shortfall) (set (take (m .taken) ps) (c .args .index) (c .args .changed)) (c .args .rows .now) ps (c .settle-place .last .taken)
-      (values j (c .args .board .now)) (values j (c .settle-place .last .board)) (c .pre .room) (c .settle-place .kept .taken)
-      (c .settle-place .ensures .taken ∙ ap (λ (cs : List Contract). recut rounding (c .args .changed .terms .seller) (c .args .shortfall) (set cs (c .args .index) (c .args .changed))) (from-start (m .taken) ps)) (c .settle-place .ensures .board)
+    (values j (c .args .board .now)) (values j (c .settle-place .last .board)) (c .pre .room) (c .settle-place .kept .taken)
+    (c .settle-place .ensures .taken ∙ ap (λ (cs : List Contract). recut rounding (c .args .changed .terms .seller) (c .args .shortfall) (set cs (c .args .index) (c .args .changed))) (from-start (m .taken) ps)) (c .settle-place .ensures .board)

@@ -25,7 +25,8 @@ settle-all-requires g c κs =
     record {
       ready = subst (λ (cs : List Contract). Ready (m .sizes) cs cs (c .args .rows .now) (length (c .args .board .now))) (sym same) (c .pre .ready);
       places = subst (λ (cs : List Contract). length cs ≤ mostPlaces) (sym same) most;
-      moderate = subst (λ (cs : List Contract). sellerTotal (c .args .seller) cs ≤ mostTotal) (sym same) (c .pre .moderate) }
+      moderate = subst (λ (cs : List Contract). sellerTotal (c .args .seller) cs ≤ mostTotal) (sym same) (c .pre .moderate);
+    }
 
 pub returns : need.returns
 returns g c =
@@ -33,5 +34,5 @@ returns g c =
     let ps = c .args .places .now in
     let j = g .E·Joining in
     settled-by (meaning j (g .E·Reversible)) (m .sizes) (m .taken) (c .args .seller) (c .args .shortfall) (take (m .taken) ps) (c .args .rows .now) ps (c .settle-all .last .taken)
-      (values j (c .args .board .now)) (values j (c .settle-all .last .board)) (c .pre .room) (c .settle-all .kept .taken)
-      (c .settle-all .ensures .taken ∙ ap (recut rounding (c .args .seller) (c .args .shortfall)) (from-start (m .taken) ps)) (c .settle-all .ensures .board)
+    (values j (c .args .board .now)) (values j (c .settle-all .last .board)) (c .pre .room) (c .settle-all .kept .taken)
+    (c .settle-all .ensures .taken ∙ ap (recut rounding (c .args .seller) (c .args .shortfall)) (from-start (m .taken) ps)) (c .settle-all .ensures .board)

@@ -17,8 +17,8 @@ returns g c =
     let h = a .hours in
     let start = a .index * h in
     let n : length (take (start + h - start) (drop start (a .rows .now))) ≡ h
-          = length-take-le (start + h - start) (drop start (a .rows .now)) (omega (arith, length-drop start (a .rows .now), c .pre .room)) ∙ omega arith in
+    = length-take-le (start + h - start) (drop start (a .rows .now)) (omega (arith, length-drop start (a .rows .now), c .pre .room)) ∙ omega arith in
     row-put h (a .index) (a .rows .now) (c .fill-row .last .row)
     ∙ ap (λ row. putRow h (a .index) row (a .rows .now))
-        (shared-row (t .amount) _ (clipped (t .first) (t .last) ws) (c .fill-row .last .row) _ (c .fill-row .result)
-          (share-passes h _ t ws (supply h t ws (c .pre .supply)) (c .pre .amount) n) (c .fill-row .ensures .answer) (c .fill-row .ensures .memory))
+    (shared-row (t .amount) _ (clipped (t .first) (t .last) ws) (c .fill-row .last .row) _ (c .fill-row .result)
+    (share-passes h _ t ws (supply h t ws (c .pre .supply)) (c .pre .amount) n) (c .fill-row .ensures .answer) (c .fill-row .ensures .memory))

@@ -35,8 +35,10 @@ returns-in-Break-state g c =
     rw (p .1, p .2) (record {
       refused = sym (confirm-decided (g .E·Joining) m (a .places .now) (a .rows .now) (a .shortfalls .now) (a .board .now) (a .number) (a .agent) (c .in-Some .place) (g .S·Scale .weights (a .scale .now))
           (adm .refused) room (c .in-Some .ensures tt .place) (c .in-Some .ensures tt .first)
-        ∙ first-some _ _ _ (sym (c .next-state .ensures .refused) ∙ ap refusalOf (c .in-Break-state .was tt)));
-      chosen = tt; supplied = tt })
+          ∙ first-some _ _ _ (sym (c .next-state .ensures .refused) ∙ ap refusalOf (c .in-Break-state .was tt)));
+      chosen = tt;
+      supplied = tt;
+    })
 
 pub returns-in-Break-weigh : need.returns-in-Break-weigh
 returns-in-Break-weigh g c =
@@ -50,9 +52,11 @@ returns-in-Break-weigh g c =
     rw (p .1, p .2) (record {
       refused = sym (confirm-decided (g .E·Joining) m (a .places .now) (a .rows .now) (a .shortfalls .now) (a .board .now) (a .number) (a .agent) (c .in-Some .place) ws
           (adm .refused) room (c .in-Some .ensures tt .place) (c .in-Some .ensures tt .first)
-        ∙ first-none _ _ (sym (c .next-state .ensures .refused) ∙ ap refusalOf (c .in-Continue-state .was tt))
-        ∙ first-some _ _ _ (ap (λ (h : ℕ). supplyCheck h (here .terms) ws) (sym (c .hours .ensures)) ∙ sym (c .weigh .ensures) ∙ ap refusalOf (c .in-Break-weigh .was tt)));
-      chosen = tt; supplied = tt })
+          ∙ first-none _ _ (sym (c .next-state .ensures .refused) ∙ ap refusalOf (c .in-Continue-state .was tt))
+          ∙ first-some _ _ _ (ap (λ (h : ℕ). supplyCheck h (here .terms) ws) (sym (c .hours .ensures)) ∙ sym (c .weigh .ensures) ∙ ap refusalOf (c .in-Break-weigh .was tt)));
+      chosen = tt;
+      supplied = tt;
+    })
 
 pub returns-then-not-has-room : need.returns-then-not-has-room
 returns-then-not-has-room g c =
@@ -63,14 +67,16 @@ returns-then-not-has-room g c =
     let here = getD (a .places .now) (c .in-Some .place - 1) blank in
     let ws = g .S·Scale .weights (a .scale .now) in
     let full = room-is (g .E·Joining) m (a .places .now) (a .rows .now) (a .shortfalls .now) (a .board .now) (a .number) (a .agent) (c .in-Some .place) ws
-          (adm .refused) room (c .in-Some .ensures tt .place) (c .in-Some .ensures tt .first) (c .has-room .result) (c .has-room .ensures) ∙ c .if-not-has-room .taken in
+    (adm .refused) room (c .in-Some .ensures tt .place) (c .in-Some .ensures tt .first) (c .has-room .result) (c .has-room .ensures) ∙ c .if-not-has-room .taken in
     record {
       refused = sym (confirm-decided (g .E·Joining) m (a .places .now) (a .rows .now) (a .shortfalls .now) (a .board .now) (a .number) (a .agent) (c .in-Some .place) ws
           (adm .refused) room (c .in-Some .ensures tt .place) (c .in-Some .ensures tt .first)
-        ∙ first-none _ _ (sym (c .next-state .ensures .refused) ∙ ap refusalOf (c .in-Continue-state .was tt))
-        ∙ first-none _ _ (ap (λ (h : ℕ). supplyCheck h (here .terms) ws) (sym (c .hours .ensures)) ∙ sym (c .weigh .ensures) ∙ ap refusalOf (c .in-Continue-weigh .was tt))
-        ∙ first-some _ [] _ (ap (λ (b : Bool). unless b 15 (c .in-Some .place)) full));
-      chosen = tt; supplied = tt }
+          ∙ first-none _ _ (sym (c .next-state .ensures .refused) ∙ ap refusalOf (c .in-Continue-state .was tt))
+          ∙ first-none _ _ (ap (λ (h : ℕ). supplyCheck h (here .terms) ws) (sym (c .hours .ensures)) ∙ sym (c .weigh .ensures) ∙ ap refusalOf (c .in-Continue-weigh .was tt))
+          ∙ first-some _ [] _ (ap (λ (b : Bool). unless b 15 (c .in-Some .place)) full));
+      chosen = tt;
+      supplied = tt;
+    }
 
 pub returns : need.returns
 returns g c =
@@ -87,22 +93,25 @@ returns g c =
     let read = at j m (a .places .now) (a .rows .now) (a .shortfalls .now) (a .board .now) room (a .number) place first in
     let next = enters _ _ (c .in-Continue-state .ensures tt .next) in
     let fits = room-is j m (a .places .now) (a .rows .now) (a .shortfalls .now) (a .board .now) (a .number) (a .agent) place ws
-          (adm .refused) room (c .in-Some .ensures tt .place) first (c .has-room .result) (c .has-room .ensures) ∙ c .if-not-has-room .left in
+    (adm .refused) room (c .in-Some .ensures tt .place) first (c .has-room .result) (c .has-room .ensures) ∙ c .if-not-has-room .left in
     let supply : supplyCheck (m .sizes .hours) (here .terms) ws ≡ None
-          = ap (λ (h : ℕ). supplyCheck h (here .terms) ws) (sym (c .hours .ensures)) ∙ sym (c .weigh .ensures) ∙ ap refusalOf (c .in-Continue-weigh .was tt) in
+    = ap (λ (h : ℕ). supplyCheck h (here .terms) ws) (sym (c .hours .ensures)) ∙ sym (c .weigh .ensures) ∙ ap refusalOf (c .in-Continue-weigh .was tt) in
     record {
       refused = sym (confirm-decided j m (a .places .now) (a .rows .now) (a .shortfalls .now) (a .board .now) (a .number) (a .agent) place ws
           (adm .refused) room (c .in-Some .ensures tt .place) first
-        ∙ first-none _ _ (sym (c .next-state .ensures .refused) ∙ ap refusalOf (c .in-Continue-state .was tt))
-        ∙ first-none _ _ supply
-        ∙ first-none _ [] (ap (λ (b : Bool). unless b 15 place) fits));
+          ∙ first-none _ _ (sym (c .next-state .ensures .refused) ∙ ap refusalOf (c .in-Continue-state .was tt))
+          ∙ first-none _ _ supply
+          ∙ first-none _ [] (ap (λ (b : Bool). unless b 15 place) fits));
       chosen = record {
         admitted = adm .sound;
         found = found j m (a .places .now) (a .rows .now) (a .shortfalls .now) (a .board .now) (a .number) place (c .in-Some .ensures tt .place)
-          ∙ ap Some (place-up j m (a .places .now) (a .rows .now) (a .shortfalls .now) (a .board .now) room (a .number) place first);
+            ∙ ap Some (place-up j m (a .places .now) (a .rows .now) (a .shortfalls .now) (a .board .now) room (a .number) place first);
         inside = inside j m (a .places .now) (a .rows .now) (a .shortfalls .now) (a .board .now) room (a .number) place first;
-        is = ap (λ (st : State). record { terms = here .terms; effective = here .effective; state = st }) (next .1) ∙ ap enforced read };
+        is = ap (λ (st : State). record { terms = here .terms; effective = here .effective; state = st }) (next .1) ∙ ap enforced read;
+      };
       supplied = record {
         offered = ap (λ (c : Contract). c .state) (sym read) ∙ next .0;
         supply = ap (λ (c : Contract). supplyCheck (m .sizes .hours) (c .terms) ws) (sym read) ∙ supply;
-        room = leb-true _ _ (ap (λ (c : Contract). leb (sellerTotal (c .terms .seller) (contracts s) + c .terms .amount) mostTotal) (sym read) ∙ fits) } }
+        room = leb-true _ _ (ap (λ (c : Contract). leb (sellerTotal (c .terms .seller) (contracts s) + c .terms .amount) mostTotal) (sym read) ∙ fits);
+      };
+    }

@@ -8,4 +8,5 @@ pub returns : need.returns
 returns g c = record {
   step = c .enforce .ensures;
   life = leads-confirming (meaning (g .E·Joining) (g .E·Reversible)) (lawful (g .E·Joining·met .assoc) (g .E·Joining·met .comm) (g .E·Joining·met .unit)) _ _ _
-    (c .args .number) (c .args .agent) (g .S·Scale .weights (c .args .scale .now)) (c .enforce .ensures) }
+      (c .args .number) (c .args .agent) (g .S·Scale .weights (c .args .scale .now)) (c .enforce .ensures);
+}

@@ -30,7 +30,8 @@ write-row-requires g c κs =
     record {
       room = subst (λ (h : ℕ). i * h + h ≤ length (a .rows .now)) (sym (c .hours .ensures)) (row-room s (a .number) i x ws chosen supplied (m .within));
       supply = ap (λ (h : ℕ). supplyCheck h (x .terms) ws) (c .hours .ensures) ∙ ap (λ t. supplyCheck (m .sizes .hours) t ws) same ∙ supplied .supply;
-      amount = subst (λ t. t .amount ≤ limit) (sym same) (amount-low s (a .number) i x ws chosen supplied (m .within)) }
+      amount = subst (λ t. t .amount ≤ limit) (sym same) (amount-low s (a .number) i x ws chosen supplied (m .within));
+    }
 
 pub settle-at-requires : need.settle-at-requires
 settle-at-requires g c κs =
@@ -48,8 +49,9 @@ settle-at-requires g c κs =
       room = room s (chosen .admitted) (m .within);
       inside = chosen .inside;
       ready = subst (λ (rs : List ℕ). Ready (m .sizes) (take (m .taken) (a .places .now)) (set (take (m .taken) (a .places .now)) i x) rs (length (a .board .now))) (sym wrote)
-        (ready-enforced s (a .number) i x ws chosen supplied (m .within) (length (a .board .now)) (sym (length-map (a .board .now) (j .value)) ∙ chosen .admitted .board));
-      moderate = moderate-enforced s (a .number) i x ws chosen supplied (m .within) }
+          (ready-enforced s (a .number) i x ws chosen supplied (m .within) (length (a .board .now)) (sym (length-map (a .board .now) (j .value)) ∙ chosen .admitted .board));
+      moderate = moderate-enforced s (a .number) i x ws chosen supplied (m .within);
+    }
 
 pub returns : need.returns
 returns g c =
@@ -67,6 +69,7 @@ returns g c =
     record {
       answered = c .in-Continue-index .ensures tt .refused;
       leaves = entered s (a .number) i x ws chosen supplied (m .within) k
-        (lawful (g .E·Joining·met .assoc) (g .E·Joining·met .comm) (g .E·Joining·met .unit)) _ refl refl wrote refl (c .shortfall-of-shortfall .result) (c .shortfall-of-shortfall .ensures)
-        (subst (λ (rs : List ℕ). Settled k (m .sizes) (m .taken) (x .terms .seller) (c .shortfall-of-shortfall .result) (set (take (m .taken) (a .places .now)) i x) rs
-          (a .places .now) (c .settle-at .last .places) (values j (a .board .now)) (values j (c .settle-at .last .board))) wrote (c .settle-at .ensures)) }
+          (lawful (g .E·Joining·met .assoc) (g .E·Joining·met .comm) (g .E·Joining·met .unit)) _ refl refl wrote refl (c .shortfall-of-shortfall .result) (c .shortfall-of-shortfall .ensures)
+          (subst (λ (rs : List ℕ). Settled k (m .sizes) (m .taken) (x .terms .seller) (c .shortfall-of-shortfall .result) (set (take (m .taken) (a .places .now)) i x) rs
+          (a .places .now) (c .settle-at .last .places) (values j (a .board .now)) (values j (c .settle-at .last .board))) wrote (c .settle-at .ensures));
+    }

@@ -31,9 +31,10 @@ returns-in-Break-state g c =
     rw (p .1, p .2) (record {
       refused = sym (decided j m (a .places .now) (a .rows .now) (a .shortfalls .now) (a .board .now) (a .number) (eventCheck s Ending (a .agent)) (Some place) (adm .refused)
           (found j m (a .places .now) (a .rows .now) (a .shortfalls .now) (a .board .now) (a .number) place (c .in-Some .ensures tt .place))
-        ∙ sym (event-at j m (a .places .now) (a .rows .now) (a .shortfalls .now) (a .board .now) room (a .number) place first Ending (a .agent))
-        ∙ sym (c .next-state .ensures .refused) ∙ ap refusalOf (c .in-Break-state .was tt));
-      chosen = tt })
+          ∙ sym (event-at j m (a .places .now) (a .rows .now) (a .shortfalls .now) (a .board .now) room (a .number) place first Ending (a .agent))
+          ∙ sym (c .next-state .ensures .refused) ∙ ap refusalOf (c .in-Break-state .was tt));
+      chosen = tt;
+    })
 
 pub returns : need.returns
 returns g c =
@@ -49,10 +50,12 @@ returns g c =
     let read = at j m (a .places .now) (a .rows .now) (a .shortfalls .now) (a .board .now) room (a .number) place first in
     record {
       refused = sym (decided j m (a .places .now) (a .rows .now) (a .shortfalls .now) (a .board .now) (a .number) (eventCheck s Ending (a .agent)) (Some place) (adm .refused) here
-        ∙ sym (event-at j m (a .places .now) (a .rows .now) (a .shortfalls .now) (a .board .now) room (a .number) place first Ending (a .agent))
-        ∙ sym (c .next-state .ensures .refused) ∙ ap refusalOf (c .in-Continue-state .was tt));
+          ∙ sym (event-at j m (a .places .now) (a .rows .now) (a .shortfalls .now) (a .board .now) room (a .number) place first Ending (a .agent))
+          ∙ sym (c .next-state .ensures .refused) ∙ ap refusalOf (c .in-Continue-state .was tt));
       chosen = record {
         admitted = adm .sound;
         found = here ∙ ap Some (place-up j m (a .places .now) (a .rows .now) (a .shortfalls .now) (a .board .now) room (a .number) place first);
         inside = inside j m (a .places .now) (a .rows .now) (a .shortfalls .now) (a .board .now) room (a .number) place first;
-        is = ap (λ (st : State). record { terms = getD (a .places .now) (place - 1) blank .terms; effective = 0; state = st }) (ends _ _ (c .in-Continue-state .ensures tt .next)) ∙ ap ended read } }
+        is = ap (λ (st : State). record { terms = getD (a .places .now) (place - 1) blank .terms; effective = 0; state = st }) (ends _ _ (c .in-Continue-state .ensures tt .next)) ∙ ap ended read;
+      };
+    }

@@ -7,4 +7,5 @@ use Rattle.month.proofs.phase.ending.Month+Open.end.Needs as need
 pub returns : need.returns
 returns g c = record {
   step = c .finish .ensures;
-  life = leads-ending (meaning (g .E·Joining) (g .E·Reversible)) (lawful (g .E·Joining·met .assoc) (g .E·Joining·met .comm) (g .E·Joining·met .unit)) _ _ _ (c .args .number) (c .args .agent) (c .finish .ensures) }
+  life = leads-ending (meaning (g .E·Joining) (g .E·Reversible)) (lawful (g .E·Joining·met .assoc) (g .E·Joining·met .comm) (g .E·Joining·met .unit)) _ _ _ (c .args .number) (c .args .agent) (c .finish .ensures);
+}

@@ -17,7 +17,8 @@ settle-at-requires g c κs =
       room = room s (chosen .admitted) (m .within);
       inside = chosen .inside;
       ready = ready-ended s (a .number) (c .in-Continue-index .index) (c .in-Continue-index .ended) chosen (m .within) _ (sym (length-map (a .board .now) (j .value)) ∙ chosen .admitted .board);
-      moderate = moderate-ended s (a .number) (c .in-Continue-index .index) (c .in-Continue-index .ended) chosen (m .within) _ }
+      moderate = moderate-ended s (a .number) (c .in-Continue-index .index) (c .in-Continue-index .ended) chosen (m .within) _;
+    }
 
 pub returns : need.returns
 returns g c =
@@ -30,4 +31,5 @@ returns g c =
     record {
       answered = c .in-Continue-index .ensures tt .refused;
       leaves = finished s (a .number) (c .in-Continue-index .index) (c .in-Continue-index .ended) chosen (m .within) k
-        (lawful (g .E·Joining·met .assoc) (g .E·Joining·met .comm) (g .E·Joining·met .unit)) _ refl refl refl refl _ (c .shortfall-of-shortfall .ensures) (c .settle-at .ensures) }
+          (lawful (g .E·Joining·met .assoc) (g .E·Joining·met .comm) (g .E·Joining·met .unit)) _ refl refl refl refl _ (c .shortfall-of-shortfall .ensures) (c .settle-at .ensures);
+    }

@@ -7,4 +7,5 @@ use Rattle.month.proofs.phase.offering.Month+Open.offer.Needs as need
 pub returns : need.returns
 returns g c = record {
   step = c .take-place .ensures;
-  life = leads-offering (meaning (g .E·Joining) (g .E·Reversible)) (lawful (g .E·Joining·met .assoc) (g .E·Joining·met .comm) (g .E·Joining·met .unit)) _ _ _ (c .args .offer) (c .take-place .ensures) }
+  life = leads-offering (meaning (g .E·Joining) (g .E·Reversible)) (lawful (g .E·Joining·met .assoc) (g .E·Joining·met .comm) (g .E·Joining·met .unit)) _ _ _ (c .args .offer) (c .take-place .ensures);
+}

@@ -22,9 +22,10 @@ returns-in-Break-unused g c =
     let number = c .args .offer .number in
     rw (p .1, p .2) (record {
       answered = sym (first-none _ _ (sym (c .in-Continue-admit .ensures tt .refused)) ∙ first-none _ _ (sym (c .in-Continue-terms .ensures tt .refused))
-        ∙ first-some _ _ _ (ap (λ (cs : List Contract). free (placeOf number cs)) (sym (from-start (m .taken) (c .args .places .now)))
-            ∙ sym (c .unused .ensures) ∙ ap refusalOf (c .in-Break-unused .was tt)));
-      leaves = refl })
+          ∙ first-some _ _ _ (ap (λ (cs : List Contract). free (placeOf number cs)) (sym (from-start (m .taken) (c .args .places .now)))
+          ∙ sym (c .unused .ensures) ∙ ap refusalOf (c .in-Break-unused .was tt)));
+      leaves = refl;
+    })
 
 pub returns : need.returns
 returns g c =
@@ -33,13 +34,21 @@ returns g c =
     let room : m .taken < m .sizes .places = omega (arith, c .places .ensures) in
     record {
       answered = sym (first-none _ _ (sym (c .in-Continue-admit .ensures tt .refused)) ∙ first-none _ _ (sym (c .in-Continue-terms .ensures tt .refused))
-        ∙ first-none _ _ (ap (λ (cs : List Contract). free (placeOf number cs)) (sym (from-start (m .taken) (c .args .places .now)))
-            ∙ sym (c .unused .ensures) ∙ ap refusalOf (c .in-Continue-unused .was tt))
-        ∙ first-none _ _ (ap (λ b. unless b 7 0) (lt-ltb (m .taken) (m .sizes .places) room)));
+          ∙ first-none _ _ (ap (λ (cs : List Contract). free (placeOf number cs)) (sym (from-start (m .taken) (c .args .places .now)))
+          ∙ sym (c .unused .ensures) ∙ ap refusalOf (c .in-Continue-unused .was tt))
+          ∙ first-none _ _ (ap (λ b. unless b 7 0) (lt-ltb (m .taken) (m .sizes .places) room)));
       leaves = record {
         contract = c .offered .result;
         offered = record {
           terms = ap (λ (x : Contract). fields (x .terms)) (c .offered .ensures) ∙ c .in-Continue-terms .ensures tt .holds;
           effective = ap (λ (x : Contract). x .effective) (c .offered .ensures);
-          state = ap (λ (x : Contract). x .state) (c .offered .ensures) };
-        places = refl; taken = refl; sizes = refl; rows = refl; shortfalls = refl; board = refl } }
+          state = ap (λ (x : Contract). x .state) (c .offered .ensures);
+        };
+        places = refl;
+        taken = refl;
+        sizes = refl;
+        rows = refl;
+        shortfalls = refl;
+        board = refl;
+      };
+    }

@@ -24,12 +24,14 @@ returns g c =
     let l = long _ _ _ _ _ _ _ n in
     let b = c .args .board .now in
     let cleared : Opened k _ = record {
-          taken = refl;
-          places = l .places;
-          rows = l .rows;
-          shortfalls = c .fill .ensures ∙ ap (λ (k : ℕ). replicate k 0) (l .shortfalls);
-          board = ap (map (j .value)) (c .fill-2 .ensures) ∙ map-replicate (j .value) (length b) (c .empty .result)
-            ∙ ap (replicate (length b)) (c .empty .ensures) ∙ ap (λ (k : ℕ). replicate k (j .nothing)) (l .board) } in
+      taken = refl;
+      places = l .places;
+      rows = l .rows;
+      shortfalls = c .fill .ensures ∙ ap (λ (k : ℕ). replicate k 0) (l .shortfalls);
+      board = ap (map (j .value)) (c .fill-2 .ensures) ∙ map-replicate (j .value) (length b) (c .empty .result)
+          ∙ ap (replicate (length b)) (c .empty .ensures) ∙ ap (λ (k : ℕ). replicate k (j .nothing)) (l .board);
+    } in
     record {
       answer = both-pass _ _ (c .in-Continue-sizes .ensures tt .refused) (simp (h .agents, h .hours, h .places) at n);
-      opened = (h, cleared, opens k (lawful (g .E·Joining·met .assoc) (g .E·Joining·met .comm) (g .E·Joining·met .unit)) _ cleared) }
+      opened = (h, cleared, opens k (lawful (g .E·Joining·met .assoc) (g .E·Joining·met .comm) (g .E·Joining·met .unit)) _ cleared);
+    }

@@ -24,7 +24,8 @@ settle-seller-requires g c κs =
     record {
       room = room s adm (m .within);
       ready = ready-told s adm (m .within) _ (sym (length-map (a .board .now) (j .value)) ∙ adm .board);
-      moderate = moderate-told s adm (m .within) (a .agent) }
+      moderate = moderate-told s adm (m .within) (a .agent);
+    }
 
 pub returns : need.returns
 returns g c =
@@ -35,10 +36,11 @@ returns g c =
     let s = stateOf j m (a .places .now) (a .rows .now) (a .shortfalls .now) (a .board .now) in
     let adm = c .in-Continue-admit .ensures tt in
     let known : unless (between 1 (m .sizes .agents) (a .agent)) 4 1 ≡ None
-          = ap (λ (n : ℕ). unless (between 1 n (a .agent)) 4 1) (sym (c .agents .ensures)) ∙ sym (c .limit .ensures) ∙ ap refusalOf (c .in-Continue-limit .was tt) in
+    = ap (λ (n : ℕ). unless (between 1 n (a .agent)) 4 1) (sym (c .agents .ensures)) ∙ sym (c .limit .ensures) ∙ ap refusalOf (c .in-Continue-limit .was tt) in
     let p = within 1 (m .sizes .agents) (a .agent) 4 1 (sym known) in
     let fine : leb (a .kwh) mostTotal ≡ true = sym (c .moderate .ensures) ∙ c .if-not-moderate .left in
     record {
       answered = sym (first-none _ _ (sym (adm .refused)) ∙ first-none _ _ known ∙ first-none _ _ (ap (λ (b : Bool). unless b 16 0) fine));
       leaves = noted s _ (adm .sound) (m .within) (a .agent) (a .kwh) (p .0) (p .1) k
-        (lawful (g .E·Joining·met .assoc) (g .E·Joining·met .comm) (g .E·Joining·met .unit)) refl refl refl refl (c .settle-seller .ensures) }
+          (lawful (g .E·Joining·met .assoc) (g .E·Joining·met .comm) (g .E·Joining·met .unit)) refl refl refl refl (c .settle-seller .ensures);
+    }
