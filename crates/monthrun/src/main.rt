@@ -18,7 +18,12 @@ fn answer_line<W: Write>(session: &mut Session, line: &LineHold, out: &mut W) ->
 }
 
 // Answers each line that ends in `block`, and holds what follows the last.
-fn answer_block<W: Write>(session: &mut Session, held: &mut LineHold, block: &[u8], out: &mut W) -> io::Result<()> {
+fn answer_block<W: Write>(
+    session: &mut Session,
+    held: &mut LineHold,
+    block: &[u8],
+    out: &mut W,
+) -> io::Result<()> {
     for b in block {
         if *b == b'\n' {
             answer_line(session, held, out)?;
@@ -32,7 +37,13 @@ fn answer_block<W: Write>(session: &mut Session, held: &mut LineHold, block: &[u
 
 // Answers the lines that end in the next block of input, and hands the answers on before more input is waited for.
 // False at the end of the input.
-fn step<R: Read, W: Write>(session: &mut Session, held: &mut LineHold, input: &mut R, block: &mut [u8], out: &mut W) -> io::Result<bool> {
+fn step<R: Read, W: Write>(
+    session: &mut Session,
+    held: &mut LineHold,
+    input: &mut R,
+    block: &mut [u8],
+    out: &mut W,
+) -> io::Result<bool> {
     match input.read(block) {
         Ok(n) => {
             answer_block(session, held, &block[0..n], out)?;
@@ -49,7 +60,12 @@ fn step<R: Read, W: Write>(session: &mut Session, held: &mut LineHold, input: &m
 }
 
 // Answers every line, the last one also where no line feed ends it.
-fn run<R: Read, W: Write>(session: &mut Session, input: &mut R, block: &mut [u8], out: &mut W) -> io::Result<()> {
+fn run<R: Read, W: Write>(
+    session: &mut Session,
+    input: &mut R,
+    block: &mut [u8],
+    out: &mut W,
+) -> io::Result<()> {
     let mut held = LineHold::new();
     for _ in 0..u64::MAX {
         if !step(session, &mut held, input, block, out)? {
@@ -65,7 +81,12 @@ fn run<R: Read, W: Write>(session: &mut Session, input: &mut R, block: &mut [u8]
 fn main(rt: LibcRuntime) -> io::Result<()> {
     let mut session = Session::new();
     let mut block = [0u8; BLOCK];
-    let result = run(&mut session, &mut rt.stdin(), &mut block, &mut BufWriter::new(rt.stdout()));
+    let result = run(
+        &mut session,
+        &mut rt.stdin(),
+        &mut block,
+        &mut BufWriter::new(rt.stdout()),
+    );
     session.finish();
     result
 }

@@ -38,12 +38,12 @@ module _ {V : Type 0} (k : Kind V) (laws : Laws (joins k)) where
   same past h t e = stays past (h .state) (t .state) (ap (λ (x : Held V). x .state) e)
 
   changes : (closed : Bool) (call : Call) (does : Option Refusal → State V → State V → Type 0) (h t : Held V) (answer : Option Refusal) (past : List Event)
-    → When closed (Refused h answer t) (Called k call does (h .state) answer (t .state) × (t .closed ≡ false)) → Lived k past (h .state) → On past (t .state)
+      → When closed (Refused h answer t) (Called k call does (h .state) answer (t .state) × (t .closed ≡ false)) → Lived k past (h .state) → On past (t .state)
   changes true call does h t answer past d life = same past h t (d .1) life
   changes false call does h t answer past d life = let p = d .0 .life past life in (event call answer ∷ past, inr (event call answer, refl), p .0, p .1)
 
   closes : (closed : Bool) (h t : Held V) (answer : Option Refusal) (past : List Event)
-    → When closed (Refused h answer t) ((answer ≡ None) × (t ≡ record { closed = true; state = h .state })) → Lived k past (h .state) → On past (t .state)
+      → When closed (Refused h answer t) ((answer ≡ None) × (t ≡ record { closed = true; state = h .state })) → Lived k past (h .state) → On past (t .state)
   closes true h t answer past d life = same past h t (d .1) life
   closes false h t answer past d life = stays past (h .state) (t .state) (ap (λ (x : Held V). x .state) (d .1)) life
 

@@ -25,9 +25,9 @@ use Rattle.session.specs.Questions.{showingOf}
 
 module _ {E : Type 0} (j : joining.Ghosts E) (r : reversible.Ghosts E) (w : shown.Ghosts E) (s : State (j .Value)) (board : List E) (on : s .board ≡ values j board) (agent submarket hour : ℕ) where
   told : (y : Result Reply Fault) → refusalOf y ≡ positionRefusal (s .sizes) (length board) agent submarket hour
-    → made y (λ a. (e : E) × (e ≡ getD board (entryIndex (s .sizes) agent submarket hour) e) × (a ≡ w .shows e))
-    → made y (λ a. InEveryLife (meaning j r) (s .sizes) (values j board) (λ past. a ≡ w .tells (ledger past) agent submarket hour))
-    → made y (Told (meaning j r) (showingOf j w) s agent submarket hour)
+      → made y (λ a. (e : E) × (e ≡ getD board (entryIndex (s .sizes) agent submarket hour) e) × (a ≡ w .shows e))
+      → made y (λ a. InEveryLife (meaning j r) (s .sizes) (values j board) (λ past. a ≡ w .tells (ledger past) agent submarket hour))
+      → made y (Told (meaning j r) (showingOf j w) s agent submarket hour)
   told (Err f) a b c = tt
   told (Ok x) a b c = record {
     shown = (b .0, read (meaning j r) (j .value) (s .sizes) board agent submarket hour (b .0) (placed (s .sizes) (length board) agent submarket hour a) (b .1) s refl on, b .2);
@@ -35,9 +35,10 @@ module _ {E : Type 0} (j : joining.Ghosts E) (r : reversible.Ghosts E) (w : show
   }
 
   pub asked : (y : Result Reply Fault) → refusalOf y ≡ positionRefusal (s .sizes) (length board) agent submarket hour
-    → made y (λ a. (e : E) × (e ≡ getD board (entryIndex (s .sizes) agent submarket hour) e) × (a ≡ w .shows e))
-    → made y (λ a. InEveryLife (meaning j r) (s .sizes) (values j board) (λ past. a ≡ w .tells (ledger past) agent submarket hour))
-    → (refusalOf y ≡ positionRefusal (s .sizes) (length (s .board)) agent submarket hour) × made y (Told (meaning j r) (showingOf j w) s agent submarket hour)
+      → made y (λ a. (e : E) × (e ≡ getD board (entryIndex (s .sizes) agent submarket hour) e) × (a ≡ w .shows e))
+      → made y (λ a. InEveryLife (meaning j r) (s .sizes) (values j board) (λ past. a ≡ w .tells (ledger past) agent submarket hour))
+      → (refusalOf y ≡ positionRefusal (s .sizes) (length (s .board)) agent submarket hour) × made y (Told (meaning j r) (showingOf j w) s agent submarket hour)
   asked y a b c = (
     a ∙ ap (λ (n : ℕ). positionRefusal (s .sizes) n agent submarket hour) (sym (ap length on ∙ length-map board (j .value))),
-    told y a b c)
+    told y a b c,
+  )

@@ -39,7 +39,7 @@ nothing e = absurd (let z : _≡_ {A = ℕ} 0 1 = cc in omega arith)
 module _ {V : Type 0} (k : Kind V) (tell : Showing V) (c : Command) where
   -- a call that is acknowledged
   pub acked : (does : Held V → Option Refusal → Held V → Type 0) → ((h t : Held V) (answer : Option Refusal) → does h answer t → Turned k tell c h (ack answer) t)
-    → (before after : Option (Held V)) (answer : Option Refusal) → Doing does before answer after → DeskTurned k tell c before (ack answer) after
+      → (before after : Option (Held V)) (answer : Option Refusal) → Doing does before answer after → DeskTurned k tell c before (ack answer) after
   acked does so None after answer h = (ap ack (h .0), h .1)
   acked does so (Some b) after answer h = (h .0, h .1, so b (h .0) answer (h .2))
 
@@ -51,33 +51,33 @@ module _ {V : Type 0} (k : Kind V) (tell : Showing V) (c : Command) where
 module _ {V : Type 0} (k : Kind V) (tell : Showing V) where
   -- a position that was told, and one that was refused
   pub located : (agent submarket hour : ℕ) (held : Option (Held V)) (y : Reply) → PositionAsked k tell agent submarket hour held (Ok y)
-    → DeskTurned k tell (Position agent submarket hour) held (spokenLine y) held
+      → DeskTurned k tell (Position agent submarket hour) held (spokenLine y) held
   located agent submarket hour None y h = nothing h
   located agent submarket hour (Some s) y h = (s, refl, (rw (sym (h .0)) (y, refl, h .1), refl))
 
   pub unlocated : (agent submarket hour : ℕ) (held : Option (Held V)) (f : Fault) → PositionAsked k tell agent submarket hour held (Err f)
-    → DeskTurned k tell (Position agent submarket hour) held (spokenLine (refused (told f))) held
+      → DeskTurned k tell (Position agent submarket hour) held (spokenLine (refused (told f))) held
   unlocated agent submarket hour None f h = (ap ack h, refl)
   unlocated agent submarket hour (Some s) f h = (s, refl, (rw (sym (h .0)) refl, refl))
 
   -- a certificate line that was written, and one that was refused
   written : (agent : ℕ) (closed : Bool) (s : State V) (before after : List ℕ) (n : ℕ) → CertificateAsked agent (Some (record { closed = closed; state = s })) before after (Ok n)
-    → Replied (λ line. DeskTurned k tell (Certificate agent) (Some (record { closed = closed; state = s })) line (Some (record { closed = closed; state = s }))) before after n
+      → Replied (λ line. DeskTurned k tell (Certificate agent) (Some (record { closed = closed; state = s })) line (Some (record { closed = closed; state = s }))) before after n
   written agent true s before after n h = record { line = certified s agent; fronted = h .1; holds = (_, refl, (rw (sym (h .0)) refl, refl)) }
   written agent false s before after n h = nothing (h .0)
 
   pub certified-on : (agent : ℕ) (held : Option (Held V)) (before after : List ℕ) (n : ℕ) → CertificateAsked agent held before after (Ok n)
-    → Replied (λ line. DeskTurned k tell (Certificate agent) held line held) before after n
+      → Replied (λ line. DeskTurned k tell (Certificate agent) held line held) before after n
   certified-on agent None before after n h = nothing (h .0)
   certified-on agent (Some x) before after n h = written agent (x .closed) (x .state) before after n h
 
   unwritten : (agent : ℕ) (closed : Bool) (s : State V) (before after : List ℕ) (f : Fault) → CertificateAsked agent (Some (record { closed = closed; state = s })) before after (Err f)
-    → (after ≡ before) × DeskTurned k tell (Certificate agent) (Some (record { closed = closed; state = s })) (spokenLine (refused (told f))) (Some (record { closed = closed; state = s }))
+      → (after ≡ before) × DeskTurned k tell (Certificate agent) (Some (record { closed = closed; state = s })) (spokenLine (refused (told f))) (Some (record { closed = closed; state = s }))
   unwritten agent true s before after f h = (h .1, (_, refl, (rw (sym (h .0)) refl, refl)))
   unwritten agent false s before after f h = (h .1, (_, refl, (ap ack (h .0), refl)))
 
   pub uncertified : (agent : ℕ) (held : Option (Held V)) (before after : List ℕ) (f : Fault) → CertificateAsked agent held before after (Err f)
-    → (after ≡ before) × DeskTurned k tell (Certificate agent) held (spokenLine (refused (told f))) held
+      → (after ≡ before) × DeskTurned k tell (Certificate agent) held (spokenLine (refused (told f))) held
   uncertified agent None before after f h = (h .1, (ap ack (h .0), refl))
   uncertified agent (Some x) before after f h = unwritten agent (x .closed) (x .state) before after f h
 
@@ -86,7 +86,7 @@ module _ {V : Type 0} (k : Kind V) (tell : Showing V) where
   as-read before line after e h = subst (λ (x : Command). DeskTurned k tell x before line after) (sym e) h
 
   pub as-read-on : (before after : Option (Held V)) (page page2 : List ℕ) (n : ℕ) {c d : Command} → c ≡ d → Replied (λ line. DeskTurned k tell d before line after) page page2 n
-    → Replied (λ line. DeskTurned k tell c before line after) page page2 n
+      → Replied (λ line. DeskTurned k tell c before line after) page page2 n
   as-read-on before after page page2 n e h = subst (λ (x : Command). Replied (λ line. DeskTurned k tell x before line after) page page2 n) (sym e) h
 
 -- what closing leaves, as the month is held
@@ -94,10 +94,20 @@ pub shut : {E : Type 0} (j : joining.Ghosts E) (board : List E) (s : Stage) (d t
     → Doing Closes (heldAt j d board s) answer (heldOf j t board)
 shut j board Idle d t answer e h = (h .0, ap (λ (x : Desk). heldOf j x board) (h .1) ∙ ap (heldAt j d board) e)
 shut j board (Open m) d t answer e h =
-    let x = h .1 in
-    (record { closed = true; state = stateOn j d board m },
-    ap (λ (x : Desk). heldOf j x board) (x .3) ∙ (λ i. Some (record { closed = true; state = record { sizes = x .1 i; taken = x .2 i;
-      places = take (d .lengths .places) (d .places); rows = take (d .lengths .rows) (d .rows); shortfalls = take (d .lengths .shortfalls) (d .shortfalls); board = values j (take (d .lengths .entries) board) } })),
-    (h .0, refl))
+    let x = h .1 in (
+      record { closed = true; state = stateOn j d board m },
+      ap (λ (x : Desk). heldOf j x board) (x .3) ∙ (λ i. Some (record {
+        closed = true;
+        state = record {
+          sizes = x .1 i;
+          taken = x .2 i;
+          places = take (d .lengths .places) (d .places);
+          rows = take (d .lengths .rows) (d .rows);
+          shortfalls = take (d .lengths .shortfalls) (d .shortfalls);
+          board = values j (take (d .lengths .entries) board);
+        };
+      })),
+      (h .0, refl),
+    )
 shut j board (Closed m) d t answer e h =
     (record { closed = true; state = stateOn j d board m }, ap (λ (x : Desk). heldOf j x board) (h .1) ∙ ap (heldAt j d board) e, (h .0, refl))

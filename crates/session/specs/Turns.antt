@@ -76,7 +76,7 @@ module _ {V : Type 0} (k : Kind V) where
 
     abbrev pub Located : State V → ℕ → ℕ → ℕ → List ℕ → Type 0
     Located s agent submarket hour = Asked (positionRefusal (s .sizes) (length (s .board)) agent submarket hour)
-      (λ line. (reply : Reply) × (line ≡ spokenLine reply) × Told s agent submarket hour reply)
+        (λ line. (reply : Reply) × (line ≡ spokenLine reply) × Told s agent submarket hour reply)
 
   -- a certificate line, which only a closed month writes, on a page of 64 bytes
   abbrev pub Certified : Held V → ℕ → List ℕ → Type 0

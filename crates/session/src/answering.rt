@@ -36,7 +36,10 @@ impl Session {
             desk: Desk::new(),
             kind: BoardKind::Net,
             net: [Net { units: 0 }; ENTRIES],
-            by_source: [BySource { conventional: 0, incentivised: 0 }; ENTRIES],
+            by_source: [BySource {
+                conventional: 0,
+                incentivised: 0,
+            }; ENTRIES],
         }
     }
 

@@ -30,7 +30,13 @@ pub trait Shown: Reversible {
 
     ghost tells: { Ledger → ℕ → ℕ → ℕ → Reply };
 
-    fn position<P>(month: &Month<P>, board: &[Self], agent: u16, submarket: u16, hour: u16) -> Result<Reply, Fault>
+    fn position<P>(
+        month: &Month<P>,
+        board: &[Self],
+        agent: u16,
+        submarket: u16,
+        hour: u16,
+    ) -> Result<Reply, Fault>
         ensures answer { λ r. ⌜ refusalOf r ≡ positionRefusal (now (month .entry) .sizes) (length (now (board .entry))) agent submarket hour ⌝ }
         ensures shown { λ r. ⌜ made r (λ y. (e : Self) × (e ≡ getD (now (board .entry)) (entryIndex (now (month .entry) .sizes) agent submarket hour) e) × (y ≡ shows e)) ⌝ }
         ensures lived { λ r. ⌜ made r (λ y. InEveryLife (meaning Self·Joining Self·Reversible) (now (month .entry) .sizes) (values Self·Joining (now (board .entry)))
@@ -42,7 +48,13 @@ pub impl Shown for Net as NetShown {
 
     ghost tells = { λ b agent submarket hour. At (differenceIn b (λ _. true) agent submarket hour) };
 
-    fn position<P>(month: &Month<P>, board: &[Net], agent: u16, submarket: u16, hour: u16) -> Result<Reply, Fault> {
+    fn position<P>(
+        month: &Month<P>,
+        board: &[Net],
+        agent: u16,
+        submarket: u16,
+        hour: u16,
+    ) -> Result<Reply, Fault> {
         let entry = month.net_position(board, agent, submarket, hour)?;
         Ok(Reply::At { net: entry.units })
     }
@@ -53,7 +65,13 @@ pub impl Shown for BySource as BySourceShown {
 
     ghost tells = { λ b agent submarket hour. AtBySource (differenceIn b (eqb 0) agent submarket hour) (differenceIn b (eqb 1) agent submarket hour) };
 
-    fn position<P>(month: &Month<P>, board: &[BySource], agent: u16, submarket: u16, hour: u16) -> Result<Reply, Fault> {
+    fn position<P>(
+        month: &Month<P>,
+        board: &[BySource],
+        agent: u16,
+        submarket: u16,
+        hour: u16,
+    ) -> Result<Reply, Fault> {
         let entry = month.position_by_source(board, agent, submarket, hour)?;
         Ok(Reply::AtBySource {
             conventional: entry.conventional,

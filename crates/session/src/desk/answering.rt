@@ -31,7 +31,12 @@ pub(crate) fn put_ack(page: &mut [u8; ROOM], answer: Result<(), Fault>) -> usize
 
 impl Desk {
     // Answers a command other than one that opens: for every kind of entry, one text.
-    pub(crate) fn answer<E: Shown>(&mut self, board: &mut [E], command: Command, page: &mut [u8; ROOM]) -> usize
+    pub(crate) fn answer<E: Shown>(
+        &mut self,
+        board: &mut [E],
+        command: Command,
+        page: &mut [u8; ROOM],
+    ) -> usize
         requires board { ⌜ length (now board) ≡ 384 ⌝ }
         ensures does { λ n. ⌜ Replied (λ line. DeskTurned (meaning E·Joining E·Reversible) (showingOf E·Joining E·Shown) command
             (heldOf E·Joining (now (self .entry)) (now (board .entry))) line (heldOf E·Joining (now (self .exit)) (now (board .exit))))

@@ -40,7 +40,15 @@ pub(super) fn put_back(stage: &mut Stage, next: Stage)
 }
 
 // Lends an open month the front of each memory for an offer.
-fn offer_on<E: Reversible>(month: &mut Month<Open>, lengths: Lengths, places: &mut [Contract], rows: &[u32], shortfalls: &[u64], board: &[E], offer: Offer) -> Result<(), Fault>
+fn offer_on<E: Reversible>(
+    month: &mut Month<Open>,
+    lengths: Lengths,
+    places: &mut [Contract],
+    rows: &[u32],
+    shortfalls: &[u64],
+    board: &[E],
+    offer: Offer,
+) -> Result<(), Fault>
     requires places { ⌜ length (now places) ≡ 16 ⌝ }
     requires rows { ⌜ length (now rows) ≡ 384 ⌝ }
     requires shortfalls { ⌜ length (now shortfalls) ≡ 4 ⌝ }
@@ -56,11 +64,26 @@ fn offer_on<E: Reversible>(month: &mut Month<Open>, lengths: Lengths, places: &m
         shortfalls: a,
         entries: b,
     } = lengths;
-    month.offer(&mut places[..n], &rows[..m], &shortfalls[..a], &board[..b], offer)
+    month.offer(
+        &mut places[..n],
+        &rows[..m],
+        &shortfalls[..a],
+        &board[..b],
+        offer,
+    )
 }
 
 // The same for a confirmation on the even scale of the month's hours.
-fn confirm_on<E: Reversible>(month: &Month<Open>, lengths: Lengths, places: &mut [Contract], rows: &mut [u32], shortfalls: &[u64], board: &mut [E], number: Number, agent: u16) -> Result<(), Fault>
+fn confirm_on<E: Reversible>(
+    month: &Month<Open>,
+    lengths: Lengths,
+    places: &mut [Contract],
+    rows: &mut [u32],
+    shortfalls: &[u64],
+    board: &mut [E],
+    number: Number,
+    agent: u16,
+) -> Result<(), Fault>
     requires places { ⌜ length (now places) ≡ 16 ⌝ }
     requires rows { ⌜ length (now rows) ≡ 384 ⌝ }
     requires shortfalls { ⌜ length (now shortfalls) ≡ 4 ⌝ }
@@ -79,11 +102,28 @@ fn confirm_on<E: Reversible>(month: &Month<Open>, lengths: Lengths, places: &mut
     } = lengths;
     let sizes = month.sizes();
     let even = EvenScale::new(sizes.hours() as usize);
-    month.confirm(&mut places[..n], &mut rows[..m], &shortfalls[..a], &mut board[..b], number, agent, &even)
+    month.confirm(
+        &mut places[..n],
+        &mut rows[..m],
+        &shortfalls[..a],
+        &mut board[..b],
+        number,
+        agent,
+        &even,
+    )
 }
 
 // The same for an ending.
-fn end_on<E: Reversible>(month: &Month<Open>, lengths: Lengths, places: &mut [Contract], rows: &[u32], shortfalls: &[u64], board: &mut [E], number: Number, agent: u16) -> Result<(), Fault>
+fn end_on<E: Reversible>(
+    month: &Month<Open>,
+    lengths: Lengths,
+    places: &mut [Contract],
+    rows: &[u32],
+    shortfalls: &[u64],
+    board: &mut [E],
+    number: Number,
+    agent: u16,
+) -> Result<(), Fault>
     requires places { ⌜ length (now places) ≡ 16 ⌝ }
     requires rows { ⌜ length (now rows) ≡ 384 ⌝ }
     requires shortfalls { ⌜ length (now shortfalls) ≡ 4 ⌝ }
@@ -99,11 +139,27 @@ fn end_on<E: Reversible>(month: &Month<Open>, lengths: Lengths, places: &mut [Co
         shortfalls: a,
         entries: b,
     } = lengths;
-    month.end(&mut places[..n], &rows[..m], &shortfalls[..a], &mut board[..b], number, agent)
+    month.end(
+        &mut places[..n],
+        &rows[..m],
+        &shortfalls[..a],
+        &mut board[..b],
+        number,
+        agent,
+    )
 }
 
 // The same for a shortfall.
-fn tell_on<E: Reversible>(month: &Month<Open>, lengths: Lengths, places: &mut [Contract], rows: &[u32], shortfalls: &mut [u64], board: &mut [E], agent: u16, kwh: u64) -> Result<(), Fault>
+fn tell_on<E: Reversible>(
+    month: &Month<Open>,
+    lengths: Lengths,
+    places: &mut [Contract],
+    rows: &[u32],
+    shortfalls: &mut [u64],
+    board: &mut [E],
+    agent: u16,
+    kwh: u64,
+) -> Result<(), Fault>
     requires places { ⌜ length (now places) ≡ 16 ⌝ }
     requires rows { ⌜ length (now rows) ≡ 384 ⌝ }
     requires shortfalls { ⌜ length (now shortfalls) ≡ 4 ⌝ }
@@ -119,7 +175,14 @@ fn tell_on<E: Reversible>(month: &Month<Open>, lengths: Lengths, places: &mut [C
         shortfalls: a,
         entries: b,
     } = lengths;
-    month.tell(&mut places[..n], &rows[..m], &mut shortfalls[..a], &mut board[..b], agent, kwh)
+    month.tell(
+        &mut places[..n],
+        &rows[..m],
+        &mut shortfalls[..a],
+        &mut board[..b],
+        agent,
+        kwh,
+    )
 }
 
 impl Desk {
@@ -131,7 +194,15 @@ impl Desk {
         match replace(&mut self.stage, Stage::Idle) {
             Stage::Open(mut month) => {
                 let lengths = self.lengths;
-                let answer = offer_on(&mut month, lengths, &mut self.places, &self.rows, &self.shortfalls, board, offer);
+                let answer = offer_on(
+                    &mut month,
+                    lengths,
+                    &mut self.places,
+                    &self.rows,
+                    &self.shortfalls,
+                    board,
+                    offer,
+                );
                 put_back(&mut self.stage, Stage::Open(month));
                 answer
             }
@@ -142,7 +213,12 @@ impl Desk {
         }
     }
 
-    pub(crate) fn confirm<E: Reversible>(&mut self, board: &mut [E], number: Number, agent: u16) -> Result<(), Fault>
+    pub(crate) fn confirm<E: Reversible>(
+        &mut self,
+        board: &mut [E],
+        number: Number,
+        agent: u16,
+    ) -> Result<(), Fault>
         requires board { ⌜ length (now board) ≡ 384 ⌝ }
         ensures { λ r. ⌜ Doing (Confirms (meaning E·Joining E·Reversible) number agent)
             (heldOf E·Joining (now (self .entry)) (now (board .entry))) (refusalOf r) (heldOf E·Joining (now (self .exit)) (now (board .exit))) ⌝ }
@@ -150,7 +226,16 @@ impl Desk {
         match replace(&mut self.stage, Stage::Idle) {
             Stage::Open(month) => {
                 let lengths = self.lengths;
-                let answer = confirm_on(&month, lengths, &mut self.places, &mut self.rows, &self.shortfalls, board, number, agent);
+                let answer = confirm_on(
+                    &month,
+                    lengths,
+                    &mut self.places,
+                    &mut self.rows,
+                    &self.shortfalls,
+                    board,
+                    number,
+                    agent,
+                );
                 put_back(&mut self.stage, Stage::Open(month));
                 answer
             }
@@ -161,7 +246,12 @@ impl Desk {
         }
     }
 
-    pub(crate) fn end<E: Reversible>(&mut self, board: &mut [E], number: Number, agent: u16) -> Result<(), Fault>
+    pub(crate) fn end<E: Reversible>(
+        &mut self,
+        board: &mut [E],
+        number: Number,
+        agent: u16,
+    ) -> Result<(), Fault>
         requires board { ⌜ length (now board) ≡ 384 ⌝ }
         ensures { λ r. ⌜ Doing (Changes (meaning E·Joining E·Reversible) (ending number agent) (Ending (meaning E·Joining E·Reversible) number agent))
             (heldOf E·Joining (now (self .entry)) (now (board .entry))) (refusalOf r) (heldOf E·Joining (now (self .exit)) (now (board .exit))) ⌝ }
@@ -169,7 +259,16 @@ impl Desk {
         match replace(&mut self.stage, Stage::Idle) {
             Stage::Open(month) => {
                 let lengths = self.lengths;
-                let answer = end_on(&month, lengths, &mut self.places, &self.rows, &self.shortfalls, board, number, agent);
+                let answer = end_on(
+                    &month,
+                    lengths,
+                    &mut self.places,
+                    &self.rows,
+                    &self.shortfalls,
+                    board,
+                    number,
+                    agent,
+                );
                 put_back(&mut self.stage, Stage::Open(month));
                 answer
             }
@@ -180,7 +279,12 @@ impl Desk {
         }
     }
 
-    pub(crate) fn tell<E: Reversible>(&mut self, board: &mut [E], agent: u16, kwh: u64) -> Result<(), Fault>
+    pub(crate) fn tell<E: Reversible>(
+        &mut self,
+        board: &mut [E],
+        agent: u16,
+        kwh: u64,
+    ) -> Result<(), Fault>
         requires board { ⌜ length (now board) ≡ 384 ⌝ }
         ensures { λ r. ⌜ Doing (Changes (meaning E·Joining E·Reversible) (telling agent kwh) (Telling (meaning E·Joining E·Reversible) agent kwh))
             (heldOf E·Joining (now (self .entry)) (now (board .entry))) (refusalOf r) (heldOf E·Joining (now (self .exit)) (now (board .exit))) ⌝ }
@@ -188,7 +292,16 @@ impl Desk {
         match replace(&mut self.stage, Stage::Idle) {
             Stage::Open(month) => {
                 let lengths = self.lengths;
-                let answer = tell_on(&month, lengths, &mut self.places, &self.rows, &mut self.shortfalls, board, agent, kwh);
+                let answer = tell_on(
+                    &month,
+                    lengths,
+                    &mut self.places,
+                    &self.rows,
+                    &mut self.shortfalls,
+                    board,
+                    agent,
+                    kwh,
+                );
                 put_back(&mut self.stage, Stage::Open(month));
                 answer
             }

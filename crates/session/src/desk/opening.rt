@@ -59,7 +59,16 @@ impl Lengths {
 }
 
 // Lends the front of each memory to open a month.
-fn open_on<E: Reversible>(agents: u16, hours: u16, size: u16, lengths: Lengths, places: &[Contract], rows: &[u32], shortfalls: &mut [u64], board: &mut [E]) -> Result<Month<Open>, Fault>
+fn open_on<E: Reversible>(
+    agents: u16,
+    hours: u16,
+    size: u16,
+    lengths: Lengths,
+    places: &[Contract],
+    rows: &[u32],
+    shortfalls: &mut [u64],
+    board: &mut [E],
+) -> Result<Month<Open>, Fault>
     requires places { ⌜ length (now places) ≡ 16 ⌝ }
     requires rows { ⌜ length (now rows) ≡ 384 ⌝ }
     requires shortfalls { ⌜ length (now shortfalls) ≡ 4 ⌝ }
@@ -77,7 +86,15 @@ fn open_on<E: Reversible>(agents: u16, hours: u16, size: u16, lengths: Lengths, 
         shortfalls: a,
         entries: b,
     } = lengths;
-    Month::open(agents, hours, size, &places[..n], &rows[..m], &mut shortfalls[..a], &mut board[..b])
+    Month::open(
+        agents,
+        hours,
+        size,
+        &places[..n],
+        &rows[..m],
+        &mut shortfalls[..a],
+        &mut board[..b],
+    )
 }
 
 // What stands at a place before a contract does.
@@ -142,7 +159,13 @@ impl Desk {
     }
 
     // Opens a month on the memory and a board, where there is none yet.
-    pub(crate) fn open<E: Reversible>(&mut self, board: &mut [E], agents: u16, hours: u16, size: u16) -> Result<(), Fault>
+    pub(crate) fn open<E: Reversible>(
+        &mut self,
+        board: &mut [E],
+        agents: u16,
+        hours: u16,
+        size: u16,
+    ) -> Result<(), Fault>
         requires idle { ⌜ now self .stage ≡ Stage.Idle ⌝ }
         requires board { ⌜ length (now board) ≡ 384 ⌝ }
         ensures refused { λ r. ⌜ refusalOf r ≡ openingRefusal agents hours size ⌝ }
@@ -150,7 +173,16 @@ impl Desk {
     {
         Sizes::new(agents, hours, size)?;
         let lengths = Lengths::of(agents, hours, size)?;
-        let month = open_on(agents, hours, size, lengths, &self.places, &self.rows, &mut self.shortfalls, board)?;
+        let month = open_on(
+            agents,
+            hours,
+            size,
+            lengths,
+            &self.places,
+            &self.rows,
+            &mut self.shortfalls,
+            board,
+        )?;
         self.lengths = lengths;
         put_back(&mut self.stage, Stage::Open(month));
         Ok(())

@@ -23,7 +23,16 @@ use month::phase::Month;
 use scale::fault::Fault;
 
 // Lends a closed month the front of each memory for a certificate line.
-fn certify_on<E: Joining>(month: &Month<Closed>, lengths: Lengths, places: &[Contract], rows: &[u32], shortfalls: &[u64], board: &[E], agent: u16, page: &mut [u8; ROOM]) -> Result<usize, Fault>
+fn certify_on<E: Joining>(
+    month: &Month<Closed>,
+    lengths: Lengths,
+    places: &[Contract],
+    rows: &[u32],
+    shortfalls: &[u64],
+    board: &[E],
+    agent: u16,
+    page: &mut [u8; ROOM],
+) -> Result<usize, Fault>
     requires places { ⌜ length (now places) ≡ 16 ⌝ }
     requires rows { ⌜ length (now rows) ≡ 384 ⌝ }
     requires shortfalls { ⌜ length (now shortfalls) ≡ 4 ⌝ }
@@ -39,12 +48,25 @@ fn certify_on<E: Joining>(month: &Month<Closed>, lengths: Lengths, places: &[Con
         shortfalls: a,
         entries: b,
     } = lengths;
-    month.certificate(&places[..n], &rows[..m], &shortfalls[..a], &board[..b], agent, page)
+    month.certificate(
+        &places[..n],
+        &rows[..m],
+        &shortfalls[..a],
+        &board[..b],
+        agent,
+        page,
+    )
 }
 
 impl Desk {
     // The reply that tells a position.
-    pub(crate) fn position<E: Shown>(&self, board: &[E], agent: u16, submarket: u16, hour: u16) -> Result<Reply, Fault>
+    pub(crate) fn position<E: Shown>(
+        &self,
+        board: &[E],
+        agent: u16,
+        submarket: u16,
+        hour: u16,
+    ) -> Result<Reply, Fault>
         requires board { ⌜ length (now board) ≡ 384 ⌝ }
         ensures { λ r. ⌜ PositionAsked (meaning E·Joining E·Reversible) (showingOf E·Joining E·Shown) agent submarket hour (heldOf E·Joining (now (self .entry)) (now (board .entry))) r ⌝ }
     {
@@ -57,12 +79,26 @@ impl Desk {
     }
 
     // Writes a certificate line to the front of the page.
-    pub(crate) fn certificate<E: Joining>(&self, board: &[E], agent: u16, page: &mut [u8; ROOM]) -> Result<usize, Fault>
+    pub(crate) fn certificate<E: Joining>(
+        &self,
+        board: &[E],
+        agent: u16,
+        page: &mut [u8; ROOM],
+    ) -> Result<usize, Fault>
         requires board { ⌜ length (now board) ≡ 384 ⌝ }
         ensures { λ r. ⌜ CertificateAsked agent (heldOf E·Joining (now (self .entry)) (now (board .entry))) (now (page .entry)) (now (page .exit)) r ⌝ }
     {
         match &self.stage {
-            Stage::Closed(month) => certify_on(month, self.lengths, &self.places, &self.rows, &self.shortfalls, board, agent, page),
+            Stage::Closed(month) => certify_on(
+                month,
+                self.lengths,
+                &self.places,
+                &self.rows,
+                &self.shortfalls,
+                board,
+                agent,
+                page,
+            ),
             _ => Err(OUT_OF_TURN),
         }
     }

@@ -30,8 +30,8 @@ returns-in-Offer g c =
         line = ack answer;
         fronted = c .put-ack .ensures .put;
         holds = as-read k tell before (ack answer) after (c .in-Offer .is) (acked k tell
-          (Offer (o .number) (o .seller) (o .buyer) (o .submarket) (o .class) (o .source) (o .first) (o .last) (o .amount))
-          (Changes k (offering o) (Offering o)) (λ h t answer d. (answer, refl, d)) before after answer (c .offer .ensures));
+            (Offer (o .number) (o .seller) (o .buyer) (o .submarket) (o .class) (o .source) (o .first) (o .last) (o .amount))
+            (Changes k (offering o) (Offering o)) (λ h t answer d. (answer, refl, d)) before after answer (c .offer .ensures));
       };
       within = c .put-ack .ensures .within;
     }
@@ -170,7 +170,7 @@ returns-in-Close g c =
         line = ack answer;
         fronted = c .put-ack-in-Close .ensures .put;
         holds = as-read k tell before (ack answer) after (c .in-Close .is) (acked k tell Close Closes (λ h t answer d. (answer, refl, d)) before after answer
-          (shut j board (d .stage) d (c .close .last .self) answer refl (c .close .ensures)));
+            (shut j board (d .stage) d (c .close .last .self) answer refl (c .close .ensures)));
       };
       within = c .put-ack-in-Close .ensures .within;
     }

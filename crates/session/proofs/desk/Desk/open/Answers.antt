@@ -13,5 +13,5 @@ returns g c =
     record {
       refused = both-pass _ _ (c .in-Continue-new .ensures tt .refused) (c .in-Continue-lengths .ensures tt .refused);
       begun = fresh (g .E·Joining) (meaning (g .E·Joining) (g .E·Reversible)) (a .agents) (a .hours) (a .size) d (c .open-on .last .board) (c .in-Continue-month .month) (c .put-back .last .stage)
-        (c .put-back .ensures) (o .0) (o .1) (o .2);
+          (c .put-back .ensures) (o .0) (o .1) (o .2);
     }

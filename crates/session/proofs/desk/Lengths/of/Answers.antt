@@ -8,6 +8,9 @@ product a b x y p q = le-trans (mul-le-mul-right b p) (mul-le-mul-left x q)
 
 pub ghost-result : need.ghost-result
 ghost-result c = (
-    omega arith,
-    (product (c .args .size) (c .args .hours) 16 24 (omega arith) (omega arith),
-    (omega arith, (product (c .args .agents * 4) (c .args .hours) 16 24 (omega arith) (omega arith), tt))))
+  omega arith,
+  (
+    product (c .args .size) (c .args .hours) 16 24 (omega arith) (omega arith),
+    (omega arith, (product (c .args .agents * 4) (c .args .hours) 16 24 (omega arith) (omega arith), tt)),
+  ),
+)
