@@ -84,12 +84,7 @@ impl Desk {
                 Err(fault) => put_reply(page, Reply::of_fault(fault)),
             },
             Command::Close => put_ack(page, self.close()),
-            Command::Open {
-                agents: _,
-                hours: _,
-                places: _,
-                kind: _,
-            } => put_ack(page, Err(OUT_OF_TURN)),
+            Command::Open { .. } => put_ack(page, Err(OUT_OF_TURN)),
         }
     }
 }
