@@ -1,6 +1,7 @@
 -- Closing the month of a session: its numbers and its memory stay.
 use mathlib.Core.Path.{_≡_}
 use mathlib.Core.Bool.{Bool, true, false}
+use Prim.Native.Nat.{ℕ}
 use Rattle.std.specs.declared.option.Option.{Option}
 use Rattle.std.specs.declared.option.Option.the-variants.{None}
 use Rattle.scale.specs.Refusals.{Refusal}
@@ -23,3 +24,9 @@ abbrev pub isIdle : Stage → Bool
 isIdle Idle = true
 isIdle (Open m) = false
 isIdle (Closed m) = false
+
+-- the places taken by the month, if there is one
+abbrev pub takenAt : Stage → ℕ
+takenAt Idle = 0
+takenAt (Open m) = m .taken
+takenAt (Closed m) = m .taken

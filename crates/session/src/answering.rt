@@ -4,6 +4,7 @@ ghost use mathlib.Core.List.{List};
 ghost use Prim.Native.Nat.{ℕ, _≤_};
 ghost use Rattle.scale.specs.Refusals.{refusalOf};
 ghost use Rattle.lines.specs.Held.{Holds};
+ghost use Rattle.session.specs.Closing.{takenAt};
 ghost use Rattle.session.specs.Lives.{LivesOn};
 ghost use Rattle.session.specs.Seen.{none, seen};
 ghost use Rattle.session.specs.Steps.{Answered, OpensFrom, Stepped};
@@ -95,14 +96,16 @@ impl Session {
         }
     }
 
-    // Puts the month away, if there is one.
-    pub fn finish(self) {
+    // Puts the month away, if there is one, and answers how many places it had taken.
+    pub fn finish(self) -> u16
+        ensures { λ r. ⌜ r ≡ takenAt (self .desk .stage) ⌝ }
+    {
         let Session {
             desk,
             kind: _,
             net: _,
             by_source: _,
         } = self;
-        desk.discard();
+        desk.discard()
     }
 }

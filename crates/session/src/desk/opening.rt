@@ -11,7 +11,7 @@ ghost use Rattle.ledger.specs.Calls.{Opened};
 ghost use Rattle.ledger.specs.Lives.{Begins};
 ghost use Rattle.session.specs.Held.{heldOf, lentTo};
 ghost use Rattle.session.specs.Opening.{memoryCheck, openingRefusal, Begun, LongAs};
-ghost use Rattle.session.specs.Closing.{Shut, isIdle};
+ghost use Rattle.session.specs.Closing.{Shut, isIdle, takenAt};
 use super::AGENTS;
 use super::Desk;
 use super::HOURS;
@@ -142,8 +142,10 @@ impl Desk {
         }
     }
 
-    // Puts the month away for good.
-    pub(crate) fn discard(self) {
+    // Puts the month away for good, and answers how many places it had taken.
+    pub(crate) fn discard(self) -> u16
+        ensures { λ r. ⌜ r ≡ takenAt (self .stage) ⌝ }
+    {
         let Desk {
             stage,
             lengths: _,
@@ -152,13 +154,9 @@ impl Desk {
             shortfalls: _,
         } = self;
         match stage {
-            Stage::Idle => {}
-            Stage::Open(month) => {
-                let _ = month.discard();
-            }
-            Stage::Closed(month) => {
-                let _ = month.discard();
-            }
+            Stage::Idle => 0,
+            Stage::Open(month) => month.discard(),
+            Stage::Closed(month) => month.discard(),
         }
     }
 
