@@ -1,4 +1,6 @@
 // The board: one entry per agent, within it per submarket, within it per hour. Deals are put on it and taken off.
+#![tactic(auto)]
+
 ghost use Rattle.std.specs.Prelude.{◌≡◌, ℕ, ◌+◌, ◌*◌, ◌≤◌, true, false, ◌≢◌, length, slice_index};
 ghost use Rattle.entry.specs.Kinds.{meaning, values};
 ghost use Rattle.board.specs.Lanes.{lane as lane_of, room_for, fitting};

@@ -1,4 +1,6 @@
 // The book of one month: contracts at their places, and what a sound book is.
+#![tactic(auto)]
+
 pub mod classes;
 pub mod contract;
 pub mod cuts;

@@ -1,4 +1,6 @@
 // A session over any input and output: reads lines and writes one reply for each.
+#![tactic(auto)]
+
 ghost use Rattle.session.specs.Lives.{LivesOn, LivesThrough};
 ghost use Rattle.session.specs.Seen.{seen};
 

@@ -1,4 +1,6 @@
 // Entries of the board: what one agent's position at an hour is written in.
+#![tactic(auto)]
+
 pub mod by_source;
 pub mod joining;
 pub mod kinds;

@@ -1,5 +1,7 @@
 // Compares the figures of docs/RULES.md, and several thousand generated cases, with a calculation of its own.
 // A line for each group; the first case that disagrees is named, and the program ends with an error.
+#![tactic(auto)]
+
 mod cuts;
 mod drawn;
 mod months;

@@ -1,5 +1,7 @@
 // Stages a full month, larger than any site has: 64 agents, 744 hours, 256 places all in force, in every submarket and class.
 // After each phase everything is held against a plain account. What is written is always the same; times go to standard error.
+#![tactic(auto)]
+
 mod plan;
 mod times;
 

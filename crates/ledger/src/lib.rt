@@ -1,4 +1,6 @@
 // The ledger of a month's past, and the law that every life of a month balances.
+#![tactic(auto)]
+
 ghost use Rattle.std.specs.Prelude.{◌≡◌};
 ghost use Rattle.entry.specs.Kinds.{meaning};
 ghost use Rattle.ledger.specs.Lives.{LivesBalance};

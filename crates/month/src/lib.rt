@@ -1,4 +1,6 @@
 // One market month: open and closed months, and every call on them.
+#![tactic(auto)]
+
 mod lengths;
 mod line;
 pub mod phase;

@@ -1,4 +1,6 @@
 // The program: a session over standard input and output.
+#![tactic(auto)]
+
 use console::{BLOCK, answer_all};
 use session::Session;
 use std::io;

@@ -3,6 +3,8 @@
 //
 // Standard input holds the script. A line is a letter and numbers, and for a call `=` with the refusal's number and spot that it must be
 // told (0 0: none). `#` begins a remark. A month begins with M, is closed by K, and ends with a dot and the count of places taken.
+#![tactic(auto)]
+
 mod host;
 mod made;
 mod script;

@@ -1,4 +1,6 @@
 // Scales: lists of weights that an amount is shared over, and the refusals that every call gives.
+#![tactic(auto)]
+
 pub mod clip;
 pub mod even;
 pub mod fault;

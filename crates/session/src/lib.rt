@@ -1,4 +1,6 @@
 // A session: what each line asks of a month, and what is replied.
+#![tactic(auto)]
+
 use crate::desk::{Desk, ENTRIES};
 use crate::kind::BoardKind;
 use entry::kinds::{BySource, Net};

@@ -1,5 +1,7 @@
 // Holds one session after another, each stored as a file of lines, and prints the replies below the file's name.
 // The first is held three times: with its input whole, by single bytes, and by blocks that cut most lines.
+#![tactic(auto)]
+
 use console::{BLOCK, answer_all};
 use session::Session;
 use std::fs::File;

@@ -1,4 +1,6 @@
 // The board follows the book: what contracts no longer deliver is taken off, and what they now deliver is added.
+#![tactic(auto)]
+
 ghost use Rattle.std.specs.Prelude.{◌≡◌, ◌<◌, ◌≤◌, length, sum, slice_set};
 ghost use Rattle.scale.specs.Shares.{shares_of};
 ghost use Rattle.scale.specs.Totals.{limit};

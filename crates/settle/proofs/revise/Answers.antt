@@ -3,30 +3,30 @@ use Rattle.entry.specs.Kinds.{meaning, values}
 use Rattle.settle.proofs.Settling.{covered_to, covered_from, row_of_lem, row_long, movable_at, followed_more, followed_all, booked_at}
 use Rattle.settle.proofs.revise.Goals as goal
 
-pub overflow-mul-row : goal.overflow-mul-row
-overflow-mul-row g c =
+pub overflow_mul-row : goal.overflow_mul-row
+overflow_mul-row g c =
     let top : (c.loop-i.i + 1) * c.hours-hours.result ≤ length c.args.rows.now = covered_to _ _ _ _ _ c.hours-hours.ensures c.loop-i-test.true c.requires.covered in
     let low : c.loop-i.i * c.hours-hours.result ≤ (c.loop-i.i + 1) * c.hours-hours.result = covered_from _ _ in
     search rules
 
-pub overflow-mul-row-in-loop-i : goal.overflow-mul-row-in-loop-i
-overflow-mul-row-in-loop-i g c =
+pub overflow_mul-row-in-loop-i : goal.overflow_mul-row-in-loop-i
+overflow_mul-row-in-loop-i g c =
     let top : (c.loop-i.i + 1) * c.hours-hours.result ≤ length c.args.rows.now = covered_to _ _ _ _ _ c.hours-hours.ensures c.loop-i-test.true c.requires.covered in
     search rules
 
-pub offset-bounds-rows-i : goal.offset-bounds-rows-i
-offset-bounds-rows-i g c =
+pub offset_bounds-rows-i : goal.offset_bounds-rows-i
+offset_bounds-rows-i g c =
     let top : (c.loop-i.i + 1) * c.hours-hours.result ≤ length c.args.rows.now = covered_to _ _ _ _ _ c.hours-hours.ensures c.loop-i-test.true c.requires.covered in
     let low : c.loop-i.i * c.hours-hours.result ≤ (c.loop-i.i + 1) * c.hours-hours.result = covered_from _ _ in
     search rules
 
-pub slice-bounds-row-end : goal.slice-bounds-row-end
-slice-bounds-row-end g c =
+pub slice_bounds-row-end : goal.slice_bounds-row-end
+slice_bounds-row-end g c =
     let top : (c.loop-i.i + 1) * c.hours-hours.result ≤ length c.args.rows.now = covered_to _ _ _ _ _ c.hours-hours.ensures c.loop-i-test.true c.requires.covered in
     search rules
 
-pub move-place-requires : goal.move-place-requires
-move-place-requires g c =
+pub move_place-requires : goal.move_place-requires
+move_place-requires g c =
     let z = c.args.sizes.now in
     let rows = c.args.rows.now in
     let i = c.loop-i.i in
@@ -58,9 +58,9 @@ loop-i-preserved g c =
     let row = take ((i + 1) * h - i * h) (drop (i * h) rows) in
     let is = row_of_lem z.hours h i rows hours in
     followed_more (meaning j g.E.Reversible) (record { assoc = met.assoc; comm = met.comm; unit = met.unit }) z old new rows (values j c.args.board.now)
-    (values j c.loop-i.board) (values j c.move-place.new.board) i _ _ row
+    (values j c.loop-i.board) (values j c.move_place.new.board) i _ _ row
     (booked_at old i _ lt) (booked_at new i _ (omega (arith, c.requires.long))) is (ap length is ∙ row_long z.hours i rows top)
-    c.move-place.ensures.cells c.move-place.ensures.cancels c.loop-i.invariant
+    c.move_place.ensures.cells c.move_place.ensures.cancels c.loop-i.invariant
 
 pub returns : goal.returns
 returns g c =

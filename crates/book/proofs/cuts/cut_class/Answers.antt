@@ -8,8 +8,8 @@ use Rattle.book.proofs.Recutting.{share_amount}
 use Rattle.book.proofs.Weighing.{weights_length}
 use Rattle.book.proofs.cuts.cut_class.Goals as goal
 
-pub share-cut-requires : goal.share-cut-requires
-share-cut-requires c =
+pub share_cut-requires : goal.share_cut-requires
+share_cut-requires c =
     let n = length c.args.taken.now in
     let all : n - 0 ≡ n = omega arith in
     record {
@@ -18,13 +18,13 @@ share-cut-requires c =
       zeros = ap (λ (k : ℕ). take k (replicate {A = ℕ} 256 0)) all ∙ take-replicate n 256 0 c.requires.places;
     }
 
-pub leave-each-requires : goal.leave-each-requires
-leave-each-requires c =
+pub leave_each-requires : goal.leave_each-requires
+leave_each-requires c =
     let q = c.args.cut in
     let cs = c.args.taken.now in
     let class = class_number c.args.class in
     let ws : List ℕ = class_weights c.args.seller class (map claim_of cs) in
     record {
-      lengths = ap length c.share-cut.ensures ∙ length_shared (down_to q (sum ws)) 0 ws ∙ weights_length c.args.seller class cs;
-      within = λ i d less. omega (arith, ap (λ (xs : List ℕ). get_or xs i 0) c.share-cut.ensures, share_amount down_to down_sound c.args.seller class q cs c.requires.most i d less);
+      lengths = ap length c.share_cut.ensures ∙ length_shared (down_to q (sum ws)) 0 ws ∙ weights_length c.args.seller class cs;
+      within = λ i d less. omega (arith, ap (λ (xs : List ℕ). get_or xs i 0) c.share_cut.ensures, share_amount down_to down_sound c.args.seller class q cs c.requires.most i d less);
     }

@@ -7,8 +7,8 @@ use Rattle.book.specs.Sound.{seller_total, sold_by}
 use Rattle.book.specs.Terms.{blank}
 use Rattle.book.proofs.room.has_room.Goals as goal
 
-pub returns-then-amount-gt-MOST-TOTAL : goal.returns-then-amount-gt-MOST-TOTAL
-returns-then-amount-gt-MOST-TOTAL c = sym (lt-leb _ _ (omega arith))
+pub returns-then-amount-gt-MOST_TOTAL : goal.returns-then-amount-gt-MOST_TOTAL
+returns-then-amount-gt-MOST_TOTAL c = sym (lt-leb _ _ (omega arith))
 
 pub returns-then-sold-left : goal.returns-then-sold-left
 returns-then-sold-left c =
@@ -17,7 +17,7 @@ returns-then-sold-left c =
     let i = c.loop-contract.contract-index in
     let more = sum_by_more (sold_by seller) cs i blank (omega arith) in
     let most = sum_by-take-le (sold_by seller) cs (i + 1) in
-    sym (lt-leb _ _ (omega (arith, more, most, c.loop-contract.invariant, c.amount-sold-sold.ensures)))
+    sym (lt-leb _ _ (omega (arith, more, most, c.loop-contract.invariant, c.amount_sold-sold.ensures)))
 
 pub loop-contract-preserved : goal.loop-contract-preserved
 loop-contract-preserved c =
@@ -25,7 +25,7 @@ loop-contract-preserved c =
     let cs = c.args.taken.now in
     let i = c.loop-contract.contract-index in
     let more = sum_by_more (sold_by seller) cs i blank (omega arith) in
-    omega (arith, more, c.loop-contract.invariant, c.amount-sold-sold.ensures)
+    omega (arith, more, c.loop-contract.invariant, c.amount_sold-sold.ensures)
 
 pub returns : goal.returns
 returns c =

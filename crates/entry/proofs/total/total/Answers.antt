@@ -9,10 +9,10 @@ pub loop-turn-preserved : goal.loop-turn-preserved
 loop-turn-preserved g c =
     let j = g.J.Joining in
     let es = c.args.entries.now in
-    let n = c.loop-turn.-turn in
+    let n = c.loop-turn._turn in
     let inv = c.loop-turn.invariant in
     let fits : length es < 2 ^ 64 = search rules in
-    let next = c.saturating-add-at.ensures ∙ at_more c.args.first n c.args.step c.loop-turn.at inv.1 in
+    let next = c.saturating_add-at.ensures ∙ at_more c.args.first n c.args.step c.loop-turn.at inv.1 in
     elim c.if-at-entries.branch [
       | then-at-entries w ↦ (
         ap j.value w.sum-is

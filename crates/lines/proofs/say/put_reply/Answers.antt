@@ -4,6 +4,6 @@ use Rattle.lines.proofs.say.put_reply.Goals as goal
 
 pub returns : goal.returns
 returns c = record {
-  put = final _ (next (10 ∷ []) (again c.put-words-end.ensures.put) (omega arith) c.put-byte.ensures.after c.put-byte.ensures.end) refl;
+  put = final _ (next (10 ∷ []) (again c.put_words-end.ensures.put) (omega arith) c.put_byte.ensures.after c.put_byte.ensures.end) refl;
   within = omega arith;
 }

@@ -15,7 +15,7 @@ loop-i-preserved c =
     let agent = c.args.agent in
     let cs = c.args.taken.now in
     let here : i < length ps = omega (arith, c.loop-i.invariant.long, c.requires.few) in
-    let is = part_is c.turnover-in.result _ _ c.turnover-in.ensures.sold c.turnover-in.ensures.bought in
+    let is = part_is c.turnover_in.result _ _ c.turnover_in.ensures.sold c.turnover_in.ensures.bought in
     record {
       long = length-set ps i _ ∙ c.loop-i.invariant.long;
       below = λ k lt. ap (λ t. get_or (set ps i t) k none) is ∙ fill_by_more (λ k. part agent (get_or cs k blank)) ps i none here c.loop-i.invariant.below k lt;

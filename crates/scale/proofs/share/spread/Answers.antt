@@ -4,9 +4,10 @@ use Rattle.scale.specs.Shares.{down_to, shared_by}
 use Rattle.scale.proofs.Parts.{total_next, weight_next}
 use Rattle.scale.proofs.Running.{down_sound, run_zero, run_rising, shared_step, shared_done}
 use Rattle.scale.proofs.share.spread.Goals as goal
+use Rattle.scale.proofs.share.spread.Goals.{After-weight-part}
 
 -- the weights up to this part
-up_to : (g : _) (c : goal.After-weight-part g) →
+up_to : (g : _) (c : After-weight-part g) →
     c.loop-i.weight + c.weight-part.result ≡ sum (take (c.loop-i.i + 1) (g.S.Scale.weights c.args.scale.now))
 up_to g c =
     let ws = g.S.Scale.weights c.args.scale.now in
@@ -14,7 +15,7 @@ up_to g c =
     let next = total_next ws c.loop-i.i lt in
     omega arith
 
-within : (g : _) (c : goal.After-weight-part g) → c.loop-i.weight + c.weight-part.result ≤ c.args.total
+within : (g : _) (c : After-weight-part g) → c.loop-i.weight + c.weight-part.result ≤ c.args.total
 within g c = omega (arith, up_to g c, sum_by-take-le (λ x. x) (g.S.Scale.weights c.args.scale.now) (c.loop-i.i + 1))
 
 pub loop-i-init : goal.loop-i-init
@@ -25,20 +26,20 @@ loop-i-init g c =
     let t : W ≡ sum ws = omega arith in
     (refl, sym (run_zero q W (down_to q W) (down_sound q W (omega arith))), ap (λ V. shared_by (down_to q V) 0 ws) t)
 
-pub overflow-add-weight : goal.overflow-add-weight
-overflow-add-weight g c = omega (arith, within g c)
+pub overflow_add-weight : goal.overflow_add-weight
+overflow_add-weight g c = omega (arith, within g c)
 
-pub given-with-upto-requires : goal.given-with-upto-requires
-given-with-upto-requires g c =
+pub given_with-upto-requires : goal.given_with-upto-requires
+given_with-upto-requires g c =
     let past : c.loop-i.weight ≡ c.loop-i.weight + c.weight-part.result - c.weight-part.result = omega arith in
     (omega arith, (omega arith, (within g c, c.loop-i.invariant.1 ∙ ap (down_to c.args.amount c.args.total) past)))
 
-pub overflow-sub-place : goal.overflow-sub-place
-overflow-sub-place g c =
+pub overflow_sub-place : goal.overflow_sub-place
+overflow_sub-place g c =
     let q = c.args.amount in
     let W = c.args.total in
     let up = run_rising q W (down_to q W) (down_sound q W (omega arith)) c.loop-i.weight (c.loop-i.weight + c.weight-part.result) (omega arith) in
-    omega (arith, c.loop-i.invariant.1, c.given-with-upto.ensures)
+    omega (arith, c.loop-i.invariant.1, c.given_with-upto.ensures)
 
 pub loop-i-preserved : goal.loop-i-preserved
 loop-i-preserved g c =
@@ -46,12 +47,12 @@ loop-i-preserved g c =
     let ws = g.S.Scale.weights c.args.scale.now in
     let i = c.loop-i.i in
     let w : c.weight-part.result ≡ get_or ws i 0 = c.weight-part.ensures ∙ weight_next ws i in
-    let y : c.given-with-upto.result - c.loop-i.before ≡ run (c.loop-i.weight + c.weight-part.result) - run c.loop-i.weight = omega (arith, c.loop-i.invariant.1, c.given-with-upto.ensures) in
+    let y : c.given_with-upto.result - c.loop-i.before ≡ run (c.loop-i.weight + c.weight-part.result) - run c.loop-i.weight = omega (arith, c.loop-i.invariant.1, c.given_with-upto.ensures) in
     let lt : i < length ws = omega arith in
     let next = total_next ws i lt in (
       omega arith,
-      omega (arith, c.given-with-upto.ensures),
-      shared_step run ws c.loop-i.out _ i c.loop-i.weight c.weight-part.result (c.given-with-upto.result - c.loop-i.before) (omega arith) (omega arith) w y c.loop-i.invariant.2,
+      omega (arith, c.given_with-upto.ensures),
+      shared_step run ws c.loop-i.out _ i c.loop-i.weight c.weight-part.result (c.given_with-upto.result - c.loop-i.before) (omega arith) (omega arith) w y c.loop-i.invariant.2,
     )
 
 pub returns : goal.returns

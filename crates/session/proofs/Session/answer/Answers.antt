@@ -6,7 +6,7 @@ use Rattle.session.proofs.Session.answer.Goals as goal
 
 pub returns-in-Some : goal.returns-in-Some
 returns-in-Some c =
-    let r = c.carry-out.ensures.does in
+    let r = c.carry_out.ensures.does in
     record {
       answered = λ text held. record {
         command = Some c.in-Some.command;
@@ -16,8 +16,8 @@ returns-in-Some c =
         does = r.holds;
         fronted = r.fronted;
       };
-      life = steps c.in-Some.command (seen c.args.self.now) (seen c.carry-out.new.self) r.line r.holds;
-      within = c.carry-out.ensures.within;
+      life = steps c.in-Some.command (seen c.args.self.now) (seen c.carry_out.new.self) r.line r.holds;
+      within = c.carry_out.ensures.within;
     }
 
 pub returns-in-None : goal.returns-in-None
@@ -28,8 +28,8 @@ returns-in-None c = record {
     exact = c.in-None.ensures.exact text held;
     line = ack (Some unfit);
     does = (refl, refl);
-    fronted = c.put-ack.ensures.put;
+    fronted = c.put_ack.ensures.put;
   };
   life = rests (seen c.args.self.now) (seen c.args.self.now) refl;
-  within = c.put-ack.ensures.within;
+  within = c.put_ack.ensures.within;
 }

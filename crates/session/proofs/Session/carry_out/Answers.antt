@@ -17,10 +17,10 @@ returns-in-Open c =
     record {
       does = record {
         line = ack answer;
-        fronted = c.put-ack.ensures.put;
+        fronted = c.put_ack.ensures.put;
         holds = subst (λ (x : Command). Stepped x s (ack answer) t) (sym a.is) (step_open a.kind a.agents a.hours a.places s t answer c.open.ensures);
       };
-      within = c.put-ack.ensures.within;
+      within = c.put_ack.ensures.within;
     }
 
 pub returns-in-Net : goal.returns-in-Net
@@ -28,7 +28,7 @@ returns-in-Net c =
     let s = c.args.self.now in
     let t : Session = record { desk = c.answer.new.self; kind = s.kind; net = c.answer.new.board; by_source = s.by_source } in
     record {
-      does = on_net c.args.command c.in-default.not-Open s.kind s t c.args.page.now c.answer.new.page c.answer.result c.in-Net.is c.answer.ensures.does;
+      does = on_net c.args.command c.in_default.not-Open s.kind s t c.args.page.now c.answer.new.page c.answer.result c.in-Net.is c.answer.ensures.does;
       within = c.answer.ensures.within;
     }
 
@@ -38,6 +38,6 @@ returns-in-BySource c =
     let r = c.answer-in-BySource in
     let t : Session = record { desk = r.new.self; kind = s.kind; net = s.net; by_source = r.new.board } in
     record {
-      does = on_by_source c.args.command c.in-default.not-Open s.kind s t c.args.page.now r.new.page r.result c.in-BySource.is r.ensures.does;
+      does = on_by_source c.args.command c.in_default.not-Open s.kind s t c.args.page.now r.new.page r.result c.in-BySource.is r.ensures.does;
       within = r.ensures.within;
     }

@@ -4,9 +4,9 @@ use Rattle.settle.proofs.tests.follow.Goals as goal
 
 pub revise-requires : goal.revise-requires
 revise-requires c =
-    let z = c.in-ok-sizes.sizes in
-    let holds = c.in-ok-sizes.ensures.holds in
+    let z = c.in_ok-sizes.sizes in
+    let holds = c.in_ok-sizes.ensures.holds in
     let full : z.agents * 4 * z.hours ≡ 16 = ap (λ (n : ℕ). n * 4 * z.hours) holds.agents ∙ ap (λ (n : ℕ). 2 * 4 * n) holds.hours in
     let covered : length c.args.old.now * z.hours ≡ length c.args.old.now * 2 = ap (λ (n : ℕ). length c.args.old.now * n) holds.hours in
     ready_sound z c.args.old.now c.args.new.now _ _ _ (length c.args.board.now) (search rules) (search rules) (search rules)
-    c.in-ok-examine.ensures.sound c.in-ok-examine-2.ensures.sound
+    c.in_ok-examine.ensures.sound c.in_ok-examine-2.ensures.sound

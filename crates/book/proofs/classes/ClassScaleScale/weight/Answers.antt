@@ -6,7 +6,7 @@ use Rattle.book.proofs.classes.ClassScaleScale.weight.Goals.{else-part-ge1-via-t
 
 pub returns-then-part-self : goal.returns-then-part-self
 returns-then-part-self c = let s = c.args.self.now in
-    c.amount-in.ensures
+    c.amount_in.ensures
     ∙ sym (weight_inside s.seller (class_number s.class) s.taken.now c.args.part c.if-part-ge1.true c.if-part-self.true)
 
 pub returns-else-part-ge1 : goal.returns-else-part-ge1

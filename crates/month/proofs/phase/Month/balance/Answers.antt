@@ -9,8 +9,8 @@ returns g c =
     let j = g.E.Joining in
     let a = c.args in
     record {
-      answer = c.joined-at.ensures.answer;
-      joined = c.joined-at.ensures.joined;
+      answer = c.joined_at.ensures.answer;
+      joined = c.joined_at.ensures.joined;
       lived = balance_lived (meaning j g.E.Reversible) (lawful g.met.E.Joining.assoc g.met.E.Joining.comm g.met.E.Joining.unit)
-          j.value a.self.now.sizes a.board.now a.submarket a.hour c.joined-at.result c.joined-at.ensures.answer c.joined-at.ensures.joined;
+          j.value a.self.now.sizes a.board.now a.submarket a.hour c.joined_at.result c.joined_at.ensures.answer c.joined_at.ensures.joined;
     }

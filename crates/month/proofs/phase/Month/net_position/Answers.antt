@@ -10,10 +10,10 @@ use Rattle.month.proofs.phase.Month.net_position.Goals as goal
 pub returns : goal.returns
 returns g c =
     let a = c.args in
-    let e = c.in-ok-net.net in
+    let e = c.in_ok-net.net in
     let fits : SFits w64 e.units = search rules in
-    let said = c.in-ok-net.ensures.answer in
-    let read = c.in-ok-net.ensures.entry in
+    let said = c.in_ok-net.ensures.answer in
+    let read = c.in_ok-net.ensures.entry in
     record {
       answer = said;
       entry = read;

@@ -9,8 +9,8 @@ returns g c =
     let j = g.E.Joining in
     let a = c.args in
     record {
-      answer = c.entry-at.ensures.answer;
-      entry = c.entry-at.ensures.entry;
+      answer = c.entry_at.ensures.answer;
+      entry = c.entry_at.ensures.entry;
       lived = position_lived (meaning j g.E.Reversible) j.value a.self.now.sizes a.board.now a.agent a.submarket a.hour
-          (lawful g.met.E.Joining.assoc g.met.E.Joining.comm g.met.E.Joining.unit) c.entry-at.result c.entry-at.ensures.answer c.entry-at.ensures.entry;
+          (lawful g.met.E.Joining.assoc g.met.E.Joining.comm g.met.E.Joining.unit) c.entry_at.result c.entry_at.ensures.answer c.entry_at.ensures.entry;
     }

@@ -10,11 +10,11 @@ use Rattle.month.proofs.phase.Month.position_by_source.Goals as goal
 pub returns : goal.returns
 returns g c =
     let a = c.args in
-    let e = c.in-ok-entry.entry in
+    let e = c.in_ok-entry.entry in
     let fits : SFits w64 e.conventional = search rules in
     let fits' : SFits w64 e.incentivised = search rules in
-    let said = c.in-ok-entry.ensures.answer in
-    let read = c.in-ok-entry.ensures.entry in
+    let said = c.in_ok-entry.ensures.answer in
+    let read = c.in_ok-entry.ensures.entry in
     record {
       answer = said;
       entry = read;

@@ -5,13 +5,13 @@ use Rattle.month.proofs.Finishing.{row_fits}
 use Rattle.month.proofs.Quantities.{fine, quantity_is, quantity_lives, row_lent}
 use Rattle.month.proofs.phase.Month.quantity.Goals as goal
 
-pub slice-bounds-quantity-end : goal.slice-bounds-quantity-end
-slice-bounds-quantity-end g c =
+pub slice_bounds-quantity-end : goal.slice_bounds-quantity-end
+slice_bounds-quantity-end g c =
     let a = c.args in
     let m = a.self.now in
     let s = state_of g.E.Joining m a.places.now a.rows.now a.shortfalls.now a.board.now in
-    let i = c.in-ok-index.index in
-    let chosen = c.in-ok-index.ensures.chosen in
+    let i = c.in_ok-index.index in
+    let chosen = c.in_ok-index.ensures.chosen in
     let fits : i * c.hours-hours.result + c.hours-hours.result ≤ length a.rows.now
     = subst (λ (h : ℕ). i * h + h ≤ length a.rows.now) (sym c.hours-hours.ensures) (row_fits s chosen.admitted m.within i chosen.inside) in
     search rules
@@ -21,13 +21,13 @@ returns g c =
     let a = c.args in
     let m = a.self.now in
     let s = state_of g.E.Joining m a.places.now a.rows.now a.shortfalls.now a.board.now in
-    let i = c.in-ok-index.index in
-    let x = c.in-ok-index.contract in
-    let chosen = c.in-ok-index.ensures.chosen in
-    let force = c.in-ok-index.ensures.standing in
+    let i = c.in_ok-index.index in
+    let x = c.in_ok-index.contract in
+    let chosen = c.in_ok-index.ensures.chosen in
+    let force = c.in_ok-index.ensures.standing in
     let row = row_lent s a.number i x chosen force m.within c.hours-hours.result c.hours-hours.ensures in
     record {
-      answer = c.quantity.ensures.answer ∙ fine s a.number i x chosen force m.within _ row ∙ c.in-ok-index.ensures.refused;
+      answer = c.quantity.ensures.answer ∙ fine s a.number i x chosen force m.within _ row ∙ c.in_ok-index.ensures.refused;
       quantity = quantity_is s a.number i x chosen force m.within c.quantity.result _ a.hour row c.quantity.ensures.value;
       lived = quantity_lives s a.number i x chosen force m.within c.quantity.result _ a.hour row c.quantity.ensures.value;
     }

@@ -11,8 +11,8 @@ use Rattle.month.proofs.Admission.{from_start}
 use Rattle.month.proofs.Replaced.{settled_by}
 use Rattle.month.proofs.phase.Month.settle_at.Goals as goal
 
-pub settle-place-requires : goal.settle-place-requires
-settle-place-requires g c =
+pub settle_place-requires : goal.settle_place-requires
+settle_place-requires g c =
     let m = c.args.self.now in
     let ps = c.args.places.now in
     let x = c.args.changed in
@@ -32,6 +32,6 @@ returns g c =
     let m = c.args.self.now in
     let ps = c.args.places.now in
     let j = g.E.Joining in
-    settled_by (meaning j g.E.Reversible) m.sizes m.taken c.args.changed.terms.seller c.args.shortfall (set (take m.taken ps) c.args.index c.args.changed) c.args.rows.now ps c.settle-place.new.taken
-    (values j c.args.board.now) (values j c.settle-place.new.board) c.requires.room c.settle-place.auto.taken
-    (c.settle-place.ensures.taken ∙ ap (λ (cs : List Contract). recut rounding c.args.changed.terms.seller c.args.shortfall (set cs c.args.index c.args.changed)) (from_start m.taken ps)) c.settle-place.ensures.board
+    settled_by (meaning j g.E.Reversible) m.sizes m.taken c.args.changed.terms.seller c.args.shortfall (set (take m.taken ps) c.args.index c.args.changed) c.args.rows.now ps c.settle_place.new.taken
+    (values j c.args.board.now) (values j c.settle_place.new.board) c.requires.room c.settle_place.auto.taken
+    (c.settle_place.ensures.taken ∙ ap (λ (cs : List Contract). recut rounding c.args.changed.terms.seller c.args.shortfall (set cs c.args.index c.args.changed)) (from_start m.taken ps)) c.settle_place.ensures.board

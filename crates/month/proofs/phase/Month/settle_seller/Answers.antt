@@ -11,8 +11,8 @@ use Rattle.month.proofs.Admission.{from_start}
 use Rattle.month.proofs.Replaced.{settled_by}
 use Rattle.month.proofs.phase.Month.settle_seller.Goals as goal
 
-pub settle-all-requires : goal.settle-all-requires
-settle-all-requires g c =
+pub settle_all-requires : goal.settle_all-requires
+settle_all-requires g c =
     let m = c.args.self.now in
     let ps = c.args.places.now in
     let same = from_start m.taken ps in
@@ -29,6 +29,6 @@ returns g c =
     let m = c.args.self.now in
     let ps = c.args.places.now in
     let j = g.E.Joining in
-    settled_by (meaning j g.E.Reversible) m.sizes m.taken c.args.seller c.args.shortfall (take m.taken ps) c.args.rows.now ps c.settle-all.new.taken
-    (values j c.args.board.now) (values j c.settle-all.new.board) c.requires.room c.settle-all.auto.taken
-    (c.settle-all.ensures.taken ∙ ap (recut rounding c.args.seller c.args.shortfall) (from_start m.taken ps)) c.settle-all.ensures.board
+    settled_by (meaning j g.E.Reversible) m.sizes m.taken c.args.seller c.args.shortfall (take m.taken ps) c.args.rows.now ps c.settle_all.new.taken
+    (values j c.args.board.now) (values j c.settle_all.new.board) c.requires.room c.settle_all.auto.taken
+    (c.settle_all.ensures.taken ∙ ap (recut rounding c.args.seller c.args.shortfall) (from_start m.taken ps)) c.settle_all.ensures.board

@@ -12,7 +12,7 @@ returns g c =
     let a = c.args in
     let m = a.self.now in
     let s = state_of g.E.Joining m a.places.now a.rows.now a.shortfalls.now a.board.now in
-    let t = c.turnover-over-turnover in
+    let t = c.turnover_over-turnover in
     let sells : t.result.sold ≡ sold a.agent (contracts s) = t.ensures.sold ∙ ap (sold a.agent) (from_start m.taken a.places.now) in
     let buys : t.result.bought ≡ bought a.agent (contracts s) = t.ensures.bought ∙ ap (bought a.agent) (from_start m.taken a.places.now) in
     record {

@@ -15,7 +15,7 @@ returns g c =
     let start = a.index * h in
     let n : length (take (start + h - start) (drop start a.rows.now)) ≡ h
     = length-take-le (start + h - start) (drop start a.rows.now) (omega (arith, length-drop start a.rows.now, c.requires.room)) ∙ omega arith in
-    row_put h a.index a.rows.now c.fill-row.new.row
+    row_put h a.index a.rows.now c.fill_row.new.row
     ∙ ap (λ row. put_row h a.index row a.rows.now)
-    (shared_row t.amount _ (clipped t.first t.last ws) c.fill-row.new.row _ c.fill-row.result
-    (share_passes h _ t ws (supply h t ws c.requires.supply) c.requires.amount n) c.fill-row.ensures.answer c.fill-row.ensures.memory)
+    (shared_row t.amount _ (clipped t.first t.last ws) c.fill_row.new.row _ c.fill_row.result
+    (share_passes h _ t ws (supply h t ws c.requires.supply) c.requires.amount n) c.fill_row.ensures.answer c.fill_row.ensures.memory)

@@ -25,12 +25,12 @@ returns-in-Offer g c =
     record {
       does = record {
         line = ack answer;
-        fronted = c.put-ack.ensures.put;
+        fronted = c.put_ack.ensures.put;
         holds = as_read k tell before (ack answer) after c.in-Offer.is (acked k tell
             (Offer o.number o.seller o.buyer o.submarket o.class o.source o.first o.last o.amount)
             (Changes k (offering o) (Offering o)) (λ h t answer d. (answer, refl, d)) before after answer c.offer.ensures);
       };
-      within = c.put-ack.ensures.within;
+      within = c.put_ack.ensures.within;
     }
 
 pub returns-in-Confirm : goal.returns-in-Confirm
@@ -45,10 +45,10 @@ returns-in-Confirm g c =
     record {
       does = record {
         line = ack answer;
-        fronted = c.put-ack-in-Confirm.ensures.put;
+        fronted = c.put_ack-in-Confirm.ensures.put;
         holds = as_read k tell before (ack answer) after a.is (acked k tell (Confirm a.number a.agent) (Confirms k a.number a.agent) (λ h t answer d. (answer, refl, d)) before after answer c.confirm.ensures);
       };
-      within = c.put-ack-in-Confirm.ensures.within;
+      within = c.put_ack-in-Confirm.ensures.within;
     }
 
 pub returns-in-End : goal.returns-in-End
@@ -63,10 +63,10 @@ returns-in-End g c =
     record {
       does = record {
         line = ack answer;
-        fronted = c.put-ack-in-End.ensures.put;
+        fronted = c.put_ack-in-End.ensures.put;
         holds = as_read k tell before (ack answer) after a.is (acked k tell (End a.number a.agent) (Changes k (ending a.number a.agent) (Ending k a.number a.agent)) (λ h t answer d. (answer, refl, d)) before after answer c.end.ensures);
       };
-      within = c.put-ack-in-End.ensures.within;
+      within = c.put_ack-in-End.ensures.within;
     }
 
 pub returns-in-Tell : goal.returns-in-Tell
@@ -81,10 +81,10 @@ returns-in-Tell g c =
     record {
       does = record {
         line = ack answer;
-        fronted = c.put-ack-in-Tell.ensures.put;
+        fronted = c.put_ack-in-Tell.ensures.put;
         holds = as_read k tell before (ack answer) after a.is (acked k tell (Tell a.agent a.kwh) (Changes k (telling a.agent a.kwh) (Telling k a.agent a.kwh)) (λ h t answer d. (answer, refl, d)) before after answer c.tell.ensures);
       };
-      within = c.put-ack-in-Tell.ensures.within;
+      within = c.put_ack-in-Tell.ensures.within;
     }
 
 pub returns-in-Ok : goal.returns-in-Ok
@@ -97,10 +97,10 @@ returns-in-Ok g c =
     record {
       does = record {
         line = spoken_line c.in-Ok.reply;
-        fronted = c.put-reply.ensures.put;
+        fronted = c.put_reply.ensures.put;
         holds = as_read k tell held (spoken_line c.in-Ok.reply) held a.is (located k tell a.agent a.submarket a.hour held c.in-Ok.reply c.in-Ok.ensures);
       };
-      within = c.put-reply.ensures.within;
+      within = c.put_reply.ensures.within;
     }
 
 pub returns-in-Err : goal.returns-in-Err
@@ -114,10 +114,10 @@ returns-in-Err g c =
     record {
       does = record {
         line = spoken_line (refused (told f));
-        fronted = rw c.of-fault.ensures at c.put-reply-in-Err.ensures.put;
+        fronted = rw c.of_fault.ensures at c.put_reply-in-Err.ensures.put;
         holds = as_read k tell held (spoken_line (refused (told f))) held a.is (unlocated k tell a.agent a.submarket a.hour held f c.in-Err.ensures);
       };
-      within = c.put-reply-in-Err.ensures.within;
+      within = c.put_reply-in-Err.ensures.within;
     }
 
 pub returns-in-Ok-certificate : goal.returns-in-Ok-certificate
@@ -146,10 +146,10 @@ returns-in-Err-certificate g c =
     record {
       does = record {
         line = spoken_line (refused (told f));
-        fronted = rw (c.of-fault-in-Err-certificate.ensures, p.0) at c.put-reply-in-Err-certificate.ensures.put;
+        fronted = rw (c.of_fault-in-Err-certificate.ensures, p.0) at c.put_reply-in-Err-certificate.ensures.put;
         holds = as_read k tell held (spoken_line (refused (told f))) held c.in-Certificate.is p.1;
       };
-      within = c.put-reply-in-Err-certificate.ensures.within;
+      within = c.put_reply-in-Err-certificate.ensures.within;
     }
 
 pub returns-in-Close : goal.returns-in-Close
@@ -165,11 +165,11 @@ returns-in-Close g c =
     record {
       does = record {
         line = ack answer;
-        fronted = c.put-ack-in-Close.ensures.put;
+        fronted = c.put_ack-in-Close.ensures.put;
         holds = as_read k tell before (ack answer) after c.in-Close.is (acked k tell Close Closes (λ h t answer d. (answer, refl, d)) before after answer
             (shut j board d.stage d c.close.new.self answer refl c.close.ensures));
       };
-      within = c.put-ack-in-Close.ensures.within;
+      within = c.put_ack-in-Close.ensures.within;
     }
 
 pub returns-in-Open : goal.returns-in-Open
@@ -182,8 +182,8 @@ returns-in-Open g c =
     record {
       does = record {
         line = ack (Some unfit);
-        fronted = c.put-ack-in-Open.ensures.put;
+        fronted = c.put_ack-in-Open.ensures.put;
         holds = as_read k tell held (ack (Some unfit)) held a.is (unfitted k tell (Open a.agents a.hours a.places a.kind) (λ h. (Some unfit, refl, (refl, refl))) held);
       };
-      within = c.put-ack-in-Open.ensures.within;
+      within = c.put_ack-in-Open.ensures.within;
     }

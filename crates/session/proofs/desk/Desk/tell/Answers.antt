@@ -10,10 +10,10 @@ use Rattle.session.proofs.desk.Desk.tell.Goals as goal
 pub returns-in-Open : goal.returns-in-Open
 returns-in-Open g c =
     let p : c.args.self.now.stage ≡ Open c.in-Open.month = sym c.replace.ensures.value ∙ c.in-Open.is in
-    rw (p, c.put-back.ensures) (_, refl, (c.tell-on-answer.ensures, refl))
+    rw (p, c.put_back.ensures) (_, refl, (c.tell_on-answer.ensures, refl))
 
-pub returns-in-default : goal.returns-in-default
-returns-in-default g c =
+pub returns-in_default : goal.returns-in_default
+returns-in_default g c =
     let k = meaning g.E.Joining g.E.Reversible in
     not_open g.E.Joining (Changes k (telling c.args.agent c.args.kwh) (Telling k c.args.agent c.args.kwh)) (λ s. (refl, refl)) c.args.self.now c.args.board.now
-    c.args.self.now.stage (c.put-back-in-default.ensures ∙ c.replace.ensures.value) (λ m e. c.in-default.not-Open m (c.replace.ensures.value ∙ e))
+    c.args.self.now.stage (c.put_back-in_default.ensures ∙ c.replace.ensures.value) (λ m e. c.in_default.not-Open m (c.replace.ensures.value ∙ e))

@@ -4,8 +4,8 @@ use Rattle.session.proofs.desk.Lengths.of.Goals as goal
 product : (a b x y : ℕ) → a ≤ x → b ≤ y → a * b ≤ x * y
 product a b x y p q = le_trans (mul-le-mul_right b p) (mul-le-mul_left x q)
 
-pub invariant-of-result : goal.invariant-of-result
-invariant-of-result c = (
+pub invariant_of-result : goal.invariant_of-result
+invariant_of-result c = (
   omega arith,
   (
     product c.args.size c.args.hours 16 24 (omega arith) (omega arith),

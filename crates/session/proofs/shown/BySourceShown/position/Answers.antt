@@ -9,8 +9,8 @@ both p q = λ i. AtBySource (p i) (q i)
 
 pub returns : goal.returns
 returns g c =
-    let f = c.in-ok-entry.ensures in
-    let e = c.in-ok-entry.entry in
+    let f = c.in_ok-entry.ensures in
+    let e = c.in_ok-entry.entry in
     let fits : SFits w64 e.conventional = search rules in
     let fits2 : SFits w64 e.incentivised = search rules in
     let x : to_z w64 (of_z w64 e.conventional) ≡ e.conventional = simp to_z-of_z in

@@ -12,16 +12,16 @@ use Rattle.month.proofs.Finishing.{room}
 use Rattle.month.proofs.Laws.{lawful}
 use Rattle.month.proofs.phase.confirming.Month+Open.enforce.Goals as goal
 
-pub write-row-requires : goal.write-row-requires
-write-row-requires g c =
+pub write_row-requires : goal.write_row-requires
+write_row-requires g c =
     let a = c.args in
     let m = a.self.now in
     let s = state_of g.E.Joining m a.places.now a.rows.now a.shortfalls.now a.board.now in
     let ws = g.S.Scale.weights a.scale.now in
-    let i = c.in-ok-index.index in
-    let x = c.in-ok-index.contract in
-    let chosen = c.in-ok-index.ensures.chosen in
-    let supplied = c.in-ok-index.ensures.supplied in
+    let i = c.in_ok-index.index in
+    let x = c.in_ok-index.contract in
+    let chosen = c.in_ok-index.ensures.chosen in
+    let supplied = c.in_ok-index.ensures.supplied in
     let same = same_terms s a.number i x ws chosen supplied m.within in
     record {
       room = subst (λ (h : ℕ). i * h + h ≤ length a.rows.now) (sym c.hours.ensures) (row_room s a.number i x ws chosen supplied m.within);
@@ -29,18 +29,18 @@ write-row-requires g c =
       amount = subst (λ t. t.amount ≤ limit) (sym same) (amount_low s a.number i x ws chosen supplied m.within);
     }
 
-pub settle-at-requires : goal.settle-at-requires
-settle-at-requires g c =
+pub settle_at-requires : goal.settle_at-requires
+settle_at-requires g c =
     let a = c.args in
     let m = a.self.now in
     let j = g.E.Joining in
     let s = state_of j m a.places.now a.rows.now a.shortfalls.now a.board.now in
     let ws = g.S.Scale.weights a.scale.now in
-    let i = c.in-ok-index.index in
-    let x = c.in-ok-index.contract in
-    let chosen = c.in-ok-index.ensures.chosen in
-    let supplied = c.in-ok-index.ensures.supplied in
-    let wrote = rows_written s a.number i x ws chosen supplied m.within c.hours.result c.write-row.new.rows c.hours.ensures c.write-row.ensures in
+    let i = c.in_ok-index.index in
+    let x = c.in_ok-index.contract in
+    let chosen = c.in_ok-index.ensures.chosen in
+    let supplied = c.in_ok-index.ensures.supplied in
+    let wrote = rows_written s a.number i x ws chosen supplied m.within c.hours.result c.write_row.new.rows c.hours.ensures c.write_row.ensures in
     record {
       room = room s chosen.admitted m.within;
       inside = chosen.inside;
@@ -57,15 +57,15 @@ returns g c =
     let k = meaning j g.E.Reversible in
     let s = state_of j m a.places.now a.rows.now a.shortfalls.now a.board.now in
     let ws = g.S.Scale.weights a.scale.now in
-    let i = c.in-ok-index.index in
-    let x = c.in-ok-index.contract in
-    let chosen = c.in-ok-index.ensures.chosen in
-    let supplied = c.in-ok-index.ensures.supplied in
-    let wrote = rows_written s a.number i x ws chosen supplied m.within c.hours.result c.write-row.new.rows c.hours.ensures c.write-row.ensures in
+    let i = c.in_ok-index.index in
+    let x = c.in_ok-index.contract in
+    let chosen = c.in_ok-index.ensures.chosen in
+    let supplied = c.in_ok-index.ensures.supplied in
+    let wrote = rows_written s a.number i x ws chosen supplied m.within c.hours.result c.write_row.new.rows c.hours.ensures c.write_row.ensures in
     record {
-      answered = c.in-ok-index.ensures.refused;
+      answered = c.in_ok-index.ensures.refused;
       leaves = entered s a.number i x ws chosen supplied m.within k
-          (lawful g.met.E.Joining.assoc g.met.E.Joining.comm g.met.E.Joining.unit) _ refl refl wrote refl c.shortfall-of-shortfall.result c.shortfall-of-shortfall.ensures
-          (subst (λ (rs : List ℕ). Settled k m.sizes m.taken x.terms.seller c.shortfall-of-shortfall.result (set (take m.taken a.places.now) i x) rs
-          a.places.now c.settle-at.new.places (values j a.board.now) (values j c.settle-at.new.board)) wrote c.settle-at.ensures);
+          (lawful g.met.E.Joining.assoc g.met.E.Joining.comm g.met.E.Joining.unit) _ refl refl wrote refl c.shortfall_of-shortfall.result c.shortfall_of-shortfall.ensures
+          (subst (λ (rs : List ℕ). Settled k m.sizes m.taken x.terms.seller c.shortfall_of-shortfall.result (set (take m.taken a.places.now) i x) rs
+          a.places.now c.settle_at.new.places (values j a.board.now) (values j c.settle_at.new.board)) wrote c.settle_at.ensures);
     }

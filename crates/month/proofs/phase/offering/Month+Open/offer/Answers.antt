@@ -6,6 +6,6 @@ use Rattle.month.proofs.phase.offering.Month+Open.offer.Goals as goal
 
 pub returns : goal.returns
 returns g c = record {
-  step = c.take-place.ensures;
-  life = leads_offering (meaning g.E.Joining g.E.Reversible) (lawful g.met.E.Joining.assoc g.met.E.Joining.comm g.met.E.Joining.unit) _ _ _ c.args.offer c.take-place.ensures;
+  step = c.take_place.ensures;
+  life = leads_offering (meaning g.E.Joining g.E.Reversible) (lawful g.met.E.Joining.assoc g.met.E.Joining.comm g.met.E.Joining.unit) _ _ _ c.args.offer c.take_place.ensures;
 }

@@ -14,8 +14,8 @@ pub returns : goal.returns
 returns g c =
     let j = g.E.Joining in
     let k = meaning j g.E.Reversible in
-    let h = c.in-ok-sizes.ensures.holds in
-    let n = c.in-ok-check-lengths.ensures in
+    let h = c.in_ok-sizes.ensures.holds in
+    let n = c.in_ok-check_lengths.ensures in
     let l = long _ _ _ _ _ _ _ n in
     let b = c.args.board.now in
     let cleared : Opened k _ = record {
@@ -27,6 +27,6 @@ returns g c =
           ∙ ap (replicate (length b)) c.empty.ensures ∙ ap (λ (k : ℕ). replicate k j.nothing) l.board;
     } in
     record {
-      answer = both_pass _ _ c.in-ok-sizes.ensures.refused (simp (h.agents, h.hours, h.places) at n);
+      answer = both_pass _ _ c.in_ok-sizes.ensures.refused (simp (h.agents, h.hours, h.places) at n);
       opened = (h, cleared, opens k (lawful g.met.E.Joining.assoc g.met.E.Joining.comm g.met.E.Joining.unit) _ cleared);
     }
