@@ -24,7 +24,7 @@ fn transfer<E: Reversible>(
     requires apart { from ≢ to }
     requires leaves { (from + 1) * length quantities.now ≤ length board.old }
     requires enters { (to + 1) * length quantities.now ≤ length board.old }
-    ensures { Moved (meaning E.Joining E.Reversible) (length quantities.now) from to source (λ t. slice_index quantities.now t) (length quantities.now) (values E.Joining board.old) (values E.Joining board.new) }
+    ensures { Moved (meaning E.Joining E.Reversible.own) (length quantities.now) from to source (λ t. slice_index quantities.now t) (length quantities.now) (values E.Joining board.old) (values E.Joining board.new) }
 {
     let hours = quantities.len();
     for (hour, quantity) in quantities.iter().enumerate() {
@@ -67,7 +67,7 @@ fn is_fitting(deal: &Deal, agents: usize) -> bool
 // Puts a deal's quantities, one per hour, on the board; answers whether the deal fits the board, which else stays as it is.
 pub fn add<E: Reversible>(board: &mut [E], deal: &Deal, quantities: &[u32]) -> bool
     ensures told { result ≡ fitting (room_for (length board.old) (length quantities.now)) deal.now }
-    ensures moved { result ≡ true → Added (meaning E.Joining E.Reversible) deal.now quantities.now (values E.Joining board.old) (values E.Joining board.new) }
+    ensures moved { result ≡ true → Added (meaning E.Joining E.Reversible.own) deal.now quantities.now (values E.Joining board.old) (values E.Joining board.new) }
     ensures kept { result ≡ false → board.new ≡ board.old }
 {
     let agents = room_for(board.len(), quantities.len());
@@ -83,8 +83,8 @@ pub fn add<E: Reversible>(board: &mut [E], deal: &Deal, quantities: &[u32]) -> b
 // Takes a deal's quantities off again, as its buyer selling them back: what `add` put on, it undoes.
 pub fn take_off<E: Reversible>(board: &mut [E], deal: &Deal, quantities: &[u32]) -> bool
     ensures told { result ≡ fitting (room_for (length board.old) (length quantities.now)) deal.now }
-    ensures moved { result ≡ true → TakenOff (meaning E.Joining E.Reversible) deal.now quantities.now (values E.Joining board.old) (values E.Joining board.new) }
-    ensures undoes { result ≡ true → Undoes (meaning E.Joining E.Reversible) deal.now quantities.now (values E.Joining board.old) (values E.Joining board.new) }
+    ensures moved { result ≡ true → TakenOff (meaning E.Joining E.Reversible.own) deal.now quantities.now (values E.Joining board.old) (values E.Joining board.new) }
+    ensures undoes { result ≡ true → Undoes (meaning E.Joining E.Reversible.own) deal.now quantities.now (values E.Joining board.old) (values E.Joining board.new) }
     ensures kept { result ≡ false → board.new ≡ board.old }
 {
     let agents = room_for(board.len(), quantities.len());

@@ -12,7 +12,7 @@ pub mod differences;
 
 // Every life balances, for each kind of entry that a board accepts: whoever calls it has the law at hand.
 pub fn every_life_balances<E: Reversible>() -> u8
-    ensures law { LivesBalance (meaning E.Joining E.Reversible) }
+    ensures law { LivesBalance (meaning E.Joining E.Reversible.own) }
     ensures zero { result ≡ 0 }
 {
     0

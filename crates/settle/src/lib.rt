@@ -63,8 +63,8 @@ fn fill(contract: &Contract, row: &[u32], quantities: &mut [u32])
 fn leave<E: Reversible>(contract: &Contract, row: &[u32], quantities: &mut [u32], board: &mut [E])
     requires room { length quantities.old ≡ length row.now }
     requires movable { Movable (length board.old) row.now contract.now }
-    ensures cells { Joined (meaning E.Joining E.Reversible) (length row.now) (takes_off (meaning E.Joining E.Reversible) rounding contract.now row.now) (values E.Joining board.old) (values E.Joining board.new) }
-    ensures cancels { AllCancel (meaning E.Joining E.Reversible) rounding (length row.now) contract.now row.now }
+    ensures cells { Joined (meaning E.Joining E.Reversible.own) (length row.now) (takes_off (meaning E.Joining E.Reversible.own) rounding contract.now row.now) (values E.Joining board.old) (values E.Joining board.new) }
+    ensures cancels { AllCancel (meaning E.Joining E.Reversible.own) rounding (length row.now) contract.now row.now }
 {
     if contract.in_force() {
         fill(contract, row, quantities);
@@ -76,8 +76,8 @@ fn leave<E: Reversible>(contract: &Contract, row: &[u32], quantities: &mut [u32]
 fn enter<E: Reversible>(contract: &Contract, row: &[u32], quantities: &mut [u32], board: &mut [E])
     requires room { length quantities.old ≡ length row.now }
     requires movable { Movable (length board.old) row.now contract.now }
-    ensures cells { Joined (meaning E.Joining E.Reversible) (length row.now) (puts (meaning E.Joining E.Reversible) rounding contract.now row.now) (values E.Joining board.old) (values E.Joining board.new) }
-    ensures cancels { AllCancel (meaning E.Joining E.Reversible) rounding (length row.now) contract.now row.now }
+    ensures cells { Joined (meaning E.Joining E.Reversible.own) (length row.now) (puts (meaning E.Joining E.Reversible.own) rounding contract.now row.now) (values E.Joining board.old) (values E.Joining board.new) }
+    ensures cancels { AllCancel (meaning E.Joining E.Reversible.own) rounding (length row.now) contract.now row.now }
 {
     if contract.in_force() {
         fill(contract, row, quantities);
@@ -96,8 +96,8 @@ fn move_place<E: Reversible>(
     requires room { length quantities.old ≡ length row.now }
     requires leaves { Movable (length board.old) row.now old.now }
     requires enters { Movable (length board.old) row.now new.now }
-    ensures cells { Joined (meaning E.Joining E.Reversible) (length row.now) (changes (meaning E.Joining E.Reversible) rounding old.now row.now new.now row.now) (values E.Joining board.old) (values E.Joining board.new) }
-    ensures cancels { BothCancel (meaning E.Joining E.Reversible) row.now old.now new.now }
+    ensures cells { Joined (meaning E.Joining E.Reversible.own) (length row.now) (changes (meaning E.Joining E.Reversible.own) rounding old.now row.now new.now row.now) (values E.Joining board.old) (values E.Joining board.new) }
+    ensures cancels { BothCancel (meaning E.Joining E.Reversible.own) row.now old.now new.now }
 {
     if !is_unmoved(old, new) {
         leave(old, row, quantities, board);
@@ -114,7 +114,7 @@ fn revise<E: Reversible>(
     board: &mut [E],
 )
     requires { Ready sizes.now old.now new.now rows.now (length board.old) }
-    ensures { Revised (meaning E.Joining E.Reversible) rounding
+    ensures { Revised (meaning E.Joining E.Reversible.own) rounding
         (booked sizes.now old.now rows.now (values E.Joining board.old))
         (booked sizes.now new.now rows.now (values E.Joining board.new)) }
 {
@@ -137,7 +137,7 @@ fn follow<E: Reversible>(
 )
     requires { Ready sizes.now taken.old after.now rows.now (length board.old) }
     ensures taken { taken.new ≡ after.now }
-    ensures board { Revised (meaning E.Joining E.Reversible) rounding
+    ensures board { Revised (meaning E.Joining E.Reversible.own) rounding
         (booked sizes.now taken.old rows.now (values E.Joining board.old))
         (booked sizes.now after.now rows.now (values E.Joining board.new)) }
 {
@@ -159,7 +159,7 @@ fn resettle<E: Reversible>(
     requires places { length after.old ≤ most_places }
     requires moderate { seller_total seller after.old ≤ most_total }
     ensures taken { taken.new ≡ recutBy rounding seller shortfall after.old }
-    ensures board { Revised (meaning E.Joining E.Reversible) rounding
+    ensures board { Revised (meaning E.Joining E.Reversible.own) rounding
         (booked sizes.now taken.old rows.now (values E.Joining board.old))
         (booked sizes.now taken.new rows.now (values E.Joining board.new)) }
 {
@@ -180,7 +180,7 @@ pub fn settle_all<E: Reversible>(
     requires places { length taken.old ≤ most_places }
     requires moderate { seller_total seller taken.old ≤ most_total }
     ensures taken { taken.new ≡ recutBy rounding seller shortfall taken.old }
-    ensures board { Revised (meaning E.Joining E.Reversible) rounding
+    ensures board { Revised (meaning E.Joining E.Reversible.own) rounding
         (booked sizes.now taken.old rows.now (values E.Joining board.old))
         (booked sizes.now taken.new rows.now (values E.Joining board.new)) }
 {
@@ -205,7 +205,7 @@ pub fn settle_place<E: Reversible>(
     requires places { length taken.old ≤ most_places }
     requires moderate { seller_total changed.terms.seller (slice_set taken.old index changed) ≤ most_total }
     ensures taken { taken.new ≡ recutBy rounding changed.terms.seller shortfall (slice_set taken.old index changed) }
-    ensures board { Revised (meaning E.Joining E.Reversible) rounding
+    ensures board { Revised (meaning E.Joining E.Reversible.own) rounding
         (booked sizes.now taken.old rows.now (values E.Joining board.old))
         (booked sizes.now taken.new rows.now (values E.Joining board.new)) }
 {

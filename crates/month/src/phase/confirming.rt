@@ -90,7 +90,7 @@ impl Month<Open> {
         agent: u16,
         scale: &S,
     ) -> Result<(), Fault>
-        ensures { Confirming (meaning E.Joining E.Reversible) number agent (S.Scale.weights scale.now) (refusal_of result)
+        ensures { Confirming (meaning E.Joining E.Reversible.own) number agent (S.Scale.weights scale.now) (refusal_of result)
             (state_of E.Joining self.now places.old rows.old shortfalls.now board.old)
             (state_of E.Joining self.now places.new rows.new shortfalls.now board.new) }
     {
@@ -121,10 +121,10 @@ impl Month<Open> {
         agent: u16,
         scale: &S,
     ) -> Result<(), Fault>
-        ensures step { Confirming (meaning E.Joining E.Reversible) number agent (S.Scale.weights scale.now) (refusal_of result)
+        ensures step { Confirming (meaning E.Joining E.Reversible.own) number agent (S.Scale.weights scale.now) (refusal_of result)
             (state_of E.Joining self.now places.old rows.old shortfalls.now board.old)
             (state_of E.Joining self.now places.new rows.new shortfalls.now board.new) }
-        ensures life { LeadsOn (meaning E.Joining E.Reversible) (confirmed number agent (S.Scale.weights scale.now)) (refusal_of result)
+        ensures life { LeadsOn (meaning E.Joining E.Reversible.own) (confirmed number agent (S.Scale.weights scale.now)) (refusal_of result)
             (state_of E.Joining self.now places.old rows.old shortfalls.now board.old)
             (state_of E.Joining self.now places.new rows.new shortfalls.now board.new) }
     {

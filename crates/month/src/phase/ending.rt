@@ -56,7 +56,7 @@ impl Month<Open> {
         number: Number,
         agent: u16,
     ) -> Result<(), Fault>
-        ensures { Ending (meaning E.Joining E.Reversible) number agent (refusal_of result)
+        ensures { Ending (meaning E.Joining E.Reversible.own) number agent (refusal_of result)
             (state_of E.Joining self.now places.old rows.now shortfalls.now board.old)
             (state_of E.Joining self.now places.new rows.now shortfalls.now board.new) }
     {
@@ -77,10 +77,10 @@ impl Month<Open> {
         number: Number,
         agent: u16,
     ) -> Result<(), Fault>
-        ensures step { Ending (meaning E.Joining E.Reversible) number agent (refusal_of result)
+        ensures step { Ending (meaning E.Joining E.Reversible.own) number agent (refusal_of result)
             (state_of E.Joining self.now places.old rows.now shortfalls.now board.old)
             (state_of E.Joining self.now places.new rows.now shortfalls.now board.new) }
-        ensures life { LeadsOn (meaning E.Joining E.Reversible) (ending number agent) (refusal_of result)
+        ensures life { LeadsOn (meaning E.Joining E.Reversible.own) (ending number agent) (refusal_of result)
             (state_of E.Joining self.now places.old rows.now shortfalls.now board.old)
             (state_of E.Joining self.now places.new rows.now shortfalls.now board.new) }
     {

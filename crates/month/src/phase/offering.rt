@@ -69,7 +69,7 @@ impl Month<Open> {
         ensures step { Offering offer (refusal_of result)
             (state_of E.Joining self.old places.old rows.now shortfalls.now board.now)
             (state_of E.Joining self.new places.new rows.now shortfalls.now board.now) }
-        ensures life { LeadsOn (meaning E.Joining E.Reversible) (offering offer) (refusal_of result)
+        ensures life { LeadsOn (meaning E.Joining E.Reversible.own) (offering offer) (refusal_of result)
             (state_of E.Joining self.old places.old rows.now shortfalls.now board.now)
             (state_of E.Joining self.new places.new rows.now shortfalls.now board.now) }
     {

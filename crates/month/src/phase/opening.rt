@@ -38,8 +38,8 @@ impl Month<Open> {
     ) -> Result<Month<Open>, Fault>
         ensures answer { refusal_of result ≡ open_refusal agents hours size (length places.now) (length rows.now) (length shortfalls.old) (length board.old) }
         ensures opened { MatchResult result
-            (λ m. Holds m.sizes agents hours size × Opened (meaning E.Joining E.Reversible) (state_of E.Joining m places.now rows.now shortfalls.new board.new)
-            × Begins (meaning E.Joining E.Reversible) (state_of E.Joining m places.now rows.now shortfalls.new board.new))
+            (λ m. Holds m.sizes agents hours size × Opened (meaning E.Joining E.Reversible.own) (state_of E.Joining m places.now rows.now shortfalls.new board.new)
+            × Begins (meaning E.Joining E.Reversible.own) (state_of E.Joining m places.now rows.now shortfalls.new board.new))
             (λ _. (shortfalls.new ≡ shortfalls.old) × (board.new ≡ board.old)) }
     {
         let sizes = Sizes::new(agents, hours, size)?;

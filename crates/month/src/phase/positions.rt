@@ -68,8 +68,8 @@ impl<P> Month<P> {
     ) -> Result<E, Fault>
         ensures answer { refusal_of result ≡ position_refusal self.now.sizes (length board.now) agent submarket hour }
         ensures entry { IfOk result (λ e. e ≡ slice_index_or board.now (entry_index self.now.sizes agent submarket hour) e) }
-        ensures lived { IfOk result (λ e. InEveryLife (meaning E.Joining E.Reversible) self.now.sizes (values E.Joining board.now)
-            (λ past. E.Joining.value e ≡ position_in (meaning E.Joining E.Reversible) (ledger past) agent submarket hour)) }
+        ensures lived { IfOk result (λ e. InEveryLife (meaning E.Joining E.Reversible.own) self.now.sizes (values E.Joining board.now)
+            (λ past. E.Joining.value e ≡ position_in (meaning E.Joining E.Reversible.own) (ledger past) agent submarket hour)) }
     {
         self.entry_at(board, agent, submarket, hour)
     }
@@ -79,7 +79,7 @@ impl<P> Month<P> {
         ensures answer { refusal_of result ≡ balance_refusal self.now.sizes (length board.now) submarket hour }
         ensures joined { IfOk result (λ e. E.Joining.value e ≡ up_to (joins_in E.Joining) self.now.sizes.agents
             (λ a. get_or (values E.Joining board.now) (entry_index self.now.sizes (suc a) submarket hour) E.Joining.nothing)) }
-        ensures lived { IfOk result (λ e. InEveryLife (meaning E.Joining E.Reversible) self.now.sizes (values E.Joining board.now)
+        ensures lived { IfOk result (λ e. InEveryLife (meaning E.Joining E.Reversible.own) self.now.sizes (values E.Joining board.now)
             (λ past. E.Joining.value e ≡ E.Joining.nothing)) }
     {
         self.joined_at(board, submarket, hour)

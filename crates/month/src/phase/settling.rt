@@ -39,7 +39,7 @@ impl<P> Month<P> {
         requires inside { index < self.now.taken }
         requires ready { Ready self.now.sizes (take self.now.taken places.old) (slice_set (take self.now.taken places.old) index changed) rows.now (length board.old) }
         requires moderate { seller_total changed.terms.seller (slice_set (take self.now.taken places.old) index changed) ≤ most_total }
-        ensures { Settled (meaning E.Joining E.Reversible) self.now.sizes self.now.taken changed.terms.seller shortfall
+        ensures { Settled (meaning E.Joining E.Reversible.own) self.now.sizes self.now.taken changed.terms.seller shortfall
             (slice_set (take self.now.taken places.old) index changed) rows.now
             places.old places.new (values E.Joining board.old) (values E.Joining board.new) }
     {
@@ -66,7 +66,7 @@ impl<P> Month<P> {
         requires room { self.now.taken ≤ length places.old }
         requires ready { Ready self.now.sizes (take self.now.taken places.old) (take self.now.taken places.old) rows.now (length board.old) }
         requires moderate { seller_total seller (take self.now.taken places.old) ≤ most_total }
-        ensures { Settled (meaning E.Joining E.Reversible) self.now.sizes self.now.taken seller shortfall
+        ensures { Settled (meaning E.Joining E.Reversible.own) self.now.sizes self.now.taken seller shortfall
             (take self.now.taken places.old) rows.now
             places.old places.new (values E.Joining board.old) (values E.Joining board.new) }
     {

@@ -25,7 +25,7 @@ impl Month<Open> {
         agent: u16,
         kwh: u64,
     ) -> Result<(), Fault>
-        ensures { Telling (meaning E.Joining E.Reversible) agent kwh (refusal_of result)
+        ensures { Telling (meaning E.Joining E.Reversible.own) agent kwh (refusal_of result)
             (state_of E.Joining self.now places.old rows.now shortfalls.old board.old)
             (state_of E.Joining self.now places.new rows.now shortfalls.new board.new) }
     {
@@ -58,10 +58,10 @@ impl Month<Open> {
         agent: u16,
         kwh: u64,
     ) -> Result<(), Fault>
-        ensures step { Telling (meaning E.Joining E.Reversible) agent kwh (refusal_of result)
+        ensures step { Telling (meaning E.Joining E.Reversible.own) agent kwh (refusal_of result)
             (state_of E.Joining self.now places.old rows.now shortfalls.old board.old)
             (state_of E.Joining self.now places.new rows.now shortfalls.new board.new) }
-        ensures life { LeadsOn (meaning E.Joining E.Reversible) (telling agent kwh) (refusal_of result)
+        ensures life { LeadsOn (meaning E.Joining E.Reversible.own) (telling agent kwh) (refusal_of result)
             (state_of E.Joining self.now places.old rows.now shortfalls.old board.old)
             (state_of E.Joining self.now places.new rows.now shortfalls.new board.new) }
     {

@@ -47,7 +47,7 @@ fn offer_on<E: Reversible>(
     requires rows { length rows.now ≡ 384 }
     requires shortfalls { length shortfalls.now ≡ 4 }
     requires board { length board.now ≡ 384 }
-    ensures { Called (meaning E.Joining E.Reversible) (offering offer) (Offering offer)
+    ensures { Called (meaning E.Joining E.Reversible.own) (offering offer) (Offering offer)
         (lent_to E.Joining month.old lengths places.old rows.now shortfalls.now board.now)
         (refusal_of result)
         (lent_to E.Joining month.new lengths places.new rows.now shortfalls.now board.now) }
@@ -82,8 +82,8 @@ fn confirm_on<E: Reversible>(
     requires rows { length rows.old ≡ 384 }
     requires shortfalls { length shortfalls.now ≡ 4 }
     requires board { length board.old ≡ 384 }
-    ensures { Called (meaning E.Joining E.Reversible) (confirming number agent (evenly month.now.sizes))
-        (Confirming (meaning E.Joining E.Reversible) number agent (evenly month.now.sizes))
+    ensures { Called (meaning E.Joining E.Reversible.own) (confirming number agent (evenly month.now.sizes))
+        (Confirming (meaning E.Joining E.Reversible.own) number agent (evenly month.now.sizes))
         (lent_to E.Joining month.now lengths places.old rows.old shortfalls.now board.old)
         (refusal_of result)
         (lent_to E.Joining month.now lengths places.new rows.new shortfalls.now board.new) }
@@ -122,7 +122,7 @@ fn end_on<E: Reversible>(
     requires rows { length rows.now ≡ 384 }
     requires shortfalls { length shortfalls.now ≡ 4 }
     requires board { length board.old ≡ 384 }
-    ensures { Called (meaning E.Joining E.Reversible) (ending number agent) (Ending (meaning E.Joining E.Reversible) number agent)
+    ensures { Called (meaning E.Joining E.Reversible.own) (ending number agent) (Ending (meaning E.Joining E.Reversible.own) number agent)
         (lent_to E.Joining month.now lengths places.old rows.now shortfalls.now board.old)
         (refusal_of result)
         (lent_to E.Joining month.now lengths places.new rows.now shortfalls.now board.new) }
@@ -158,7 +158,7 @@ fn tell_on<E: Reversible>(
     requires rows { length rows.now ≡ 384 }
     requires shortfalls { length shortfalls.old ≡ 4 }
     requires board { length board.old ≡ 384 }
-    ensures { Called (meaning E.Joining E.Reversible) (telling agent kwh) (Telling (meaning E.Joining E.Reversible) agent kwh)
+    ensures { Called (meaning E.Joining E.Reversible.own) (telling agent kwh) (Telling (meaning E.Joining E.Reversible.own) agent kwh)
         (lent_to E.Joining month.now lengths places.old rows.now shortfalls.old board.old)
         (refusal_of result)
         (lent_to E.Joining month.now lengths places.new rows.now shortfalls.new board.new) }
@@ -182,7 +182,7 @@ fn tell_on<E: Reversible>(
 impl Desk {
     pub(crate) fn offer<E: Reversible>(&mut self, board: &[E], offer: Offer) -> Result<(), Fault>
         requires board { length board.now ≡ 384 }
-        ensures { Doing (Changes (meaning E.Joining E.Reversible) (offering offer) (Offering offer))
+        ensures { Doing (Changes (meaning E.Joining E.Reversible.own) (offering offer) (Offering offer))
             (held_of E.Joining self.old board.now) (refusal_of result) (held_of E.Joining self.new board.now) }
     {
         match replace(&mut self.stage, Stage::Idle) {
@@ -214,7 +214,7 @@ impl Desk {
         agent: u16,
     ) -> Result<(), Fault>
         requires board { length board.old ≡ 384 }
-        ensures { Doing (Confirms (meaning E.Joining E.Reversible) number agent)
+        ensures { Doing (Confirms (meaning E.Joining E.Reversible.own) number agent)
             (held_of E.Joining self.old board.old) (refusal_of result) (held_of E.Joining self.new board.new) }
     {
         match replace(&mut self.stage, Stage::Idle) {
@@ -247,7 +247,7 @@ impl Desk {
         agent: u16,
     ) -> Result<(), Fault>
         requires board { length board.old ≡ 384 }
-        ensures { Doing (Changes (meaning E.Joining E.Reversible) (ending number agent) (Ending (meaning E.Joining E.Reversible) number agent))
+        ensures { Doing (Changes (meaning E.Joining E.Reversible.own) (ending number agent) (Ending (meaning E.Joining E.Reversible.own) number agent))
             (held_of E.Joining self.old board.old) (refusal_of result) (held_of E.Joining self.new board.new) }
     {
         match replace(&mut self.stage, Stage::Idle) {
@@ -280,7 +280,7 @@ impl Desk {
         kwh: u64,
     ) -> Result<(), Fault>
         requires board { length board.old ≡ 384 }
-        ensures { Doing (Changes (meaning E.Joining E.Reversible) (telling agent kwh) (Telling (meaning E.Joining E.Reversible) agent kwh))
+        ensures { Doing (Changes (meaning E.Joining E.Reversible.own) (telling agent kwh) (Telling (meaning E.Joining E.Reversible.own) agent kwh))
             (held_of E.Joining self.old board.old) (refusal_of result) (held_of E.Joining self.new board.new) }
     {
         match replace(&mut self.stage, Stage::Idle) {

@@ -63,8 +63,8 @@ fn open_on<E: Reversible>(
     requires lawful { first_of (size_checks agents hours size) ≡ None }
     ensures accepted { refusal_of result ≡ None }
     ensures opened { IfOk result (λ m. Holds m.sizes agents hours size
-        × Opened (meaning E.Joining E.Reversible) (lent_to E.Joining m lengths places.now rows.now shortfalls.new board.new)
-        × Begins (meaning E.Joining E.Reversible) (lent_to E.Joining m lengths places.now rows.now shortfalls.new board.new)) }
+        × Opened (meaning E.Joining E.Reversible.own) (lent_to E.Joining m lengths places.now rows.now shortfalls.new board.new)
+        × Begins (meaning E.Joining E.Reversible.own) (lent_to E.Joining m lengths places.now rows.now shortfalls.new board.new)) }
 {
     let Lengths {
         places: n,
@@ -140,7 +140,7 @@ impl Desk {
         requires idle { self.old.stage ≡ Stage.Idle }
         requires board { length board.old ≡ 384 }
         ensures refused { refusal_of result ≡ opening_refusal agents hours size }
-        ensures begun { Begun (meaning E.Joining E.Reversible) agents hours size (refusal_of result) (held_of E.Joining self.new board.new) }
+        ensures begun { Begun (meaning E.Joining E.Reversible.own) agents hours size (refusal_of result) (held_of E.Joining self.new board.new) }
     {
         Sizes::new(agents, hours, size)?;
         let lengths = Lengths::of(agents, hours, size)?;
