@@ -12,7 +12,7 @@ returns-then-rest-ne32 c = λ ns w few e. no_space c.loop-rest.invariant.2 c.loo
 pub returns-in_err-n : goal.returns-in_err-n
 returns-in_err-n c =
     let cut = cut_at _ _ _ _ _ c.loop-rest-test.true c.if-rest-ne32.false refl c.split_at.ensures.front c.split_at.ensures.back c.word_len.ensures.within c.word_len.ensures.solid c.word_len.ensures.stops in
-    simp c.from-residual.ensures (λ ns w few e. no_number c.loop-rest.invariant.2 c.loop-rest-test.true ns w e _ _ cut.whole cut.solid cut.ends c.in_err-n.ensures)
+    simp c.from_residual.ensures (λ ns w few e. no_number c.loop-rest.invariant.2 c.loop-rest-test.true ns w e _ _ cut.whole cut.solid cut.ends c.in_err-n.ensures)
 
 pub loop-rest-preserved : goal.loop-rest-preserved
 loop-rest-preserved c =

@@ -16,7 +16,7 @@ returns-in_err-limit g c =
     let m = a.self.now in
     let adm = c.in_ok-admit.ensures in
     let room : m.taken ≤ length a.places.now = omega (arith, adm.sound.places, m.within) in
-    let p = err_from_is_err_and c.from-residual-in_err-limit.result c.from-residual-in_err-limit.ensures.1 in
+    let p = err_from_is_err_and c.from_residual-in_err-limit.result c.from_residual-in_err-limit.ensures.1 in
     rw (p.1, p.2) (record {
       refused = sym (quantity_decided g.E.Joining m a.places.now a.rows.now a.shortfalls.now a.board.now a.number c.in-Some.place a.hour
           adm.refused room c.in-Some.ensures.place c.in-Some.ensures.first

@@ -24,7 +24,7 @@ returns-in_err-state g c =
     let m = a.self.now in
     let adm = c.in_ok-admit.ensures in
     let room : m.taken ≤ length a.places.now = omega (arith, adm.sound.places, m.within) in
-    let p = err_from_is_err_and c.from-residual-in_err-state.result c.from-residual-in_err-state.ensures.1 in
+    let p = err_from_is_err_and c.from_residual-in_err-state.result c.from_residual-in_err-state.ensures.1 in
     rw (p.1, p.2) (record {
       refused = sym (confirm_decided g.E.Joining m a.places.now a.rows.now a.shortfalls.now a.board.now a.number a.agent c.in-Some.place (g.S.Scale.weights a.scale.now)
           adm.refused room c.in-Some.ensures.place c.in-Some.ensures.first
@@ -41,7 +41,7 @@ returns-in_err-weigh g c =
     let room : m.taken ≤ length a.places.now = omega (arith, adm.sound.places, m.within) in
     let here = get_or a.places.now (c.in-Some.place - 1) blank in
     let ws = g.S.Scale.weights a.scale.now in
-    let p = err_from_is_err_and c.from-residual-in_err-weigh.result c.from-residual-in_err-weigh.ensures.1 in
+    let p = err_from_is_err_and c.from_residual-in_err-weigh.result c.from_residual-in_err-weigh.ensures.1 in
     rw (p.1, p.2) (record {
       refused = sym (confirm_decided g.E.Joining m a.places.now a.rows.now a.shortfalls.now a.board.now a.number a.agent c.in-Some.place ws
           adm.refused room c.in-Some.ensures.place c.in-Some.ensures.first

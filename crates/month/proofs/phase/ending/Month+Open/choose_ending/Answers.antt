@@ -23,7 +23,7 @@ returns-in_err-state g c =
     let adm = c.in_ok-admit.ensures in
     let room : m.taken ≤ length a.places.now = omega (arith, adm.sound.places, m.within) in
     let first = c.in-Some.ensures.first in
-    let p = err_from_is_err_and c.from-residual-in_err-state.result c.from-residual-in_err-state.ensures.1 in
+    let p = err_from_is_err_and c.from_residual-in_err-state.result c.from_residual-in_err-state.ensures.1 in
     rw (p.1, p.2) (record {
       refused = sym (decided j m a.places.now a.rows.now a.shortfalls.now a.board.now a.number (event_check s Ending a.agent) (Some place) adm.refused
           (found j m a.places.now a.rows.now a.shortfalls.now a.board.now a.number place c.in-Some.ensures.place)

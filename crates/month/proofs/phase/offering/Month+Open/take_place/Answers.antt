@@ -13,7 +13,7 @@ use Rattle.month.proofs.phase.offering.Month+Open.take_place.Goals as goal
 
 pub returns-in_err-unused : goal.returns-in_err-unused
 returns-in_err-unused g c =
-    let p = err_from_is_err_and c.from-residual-in_err-unused.result c.from-residual-in_err-unused.ensures.1 in
+    let p = err_from_is_err_and c.from_residual-in_err-unused.result c.from_residual-in_err-unused.ensures.1 in
     let m = c.args.self.now in
     let number = c.args.offer.number in
     rw (p.1, p.2) (record {
