@@ -30,7 +30,7 @@ pub trait Shown: Reversible {
     ) -> Result<Reply, Fault>
         ensures answer { refusal_of result ≡ position_refusal month.now.sizes (length board.now) agent submarket hour }
         ensures shown { IfOk result (λ y. (e : Self) × (e ≡ slice_index_or board.now (entry_index month.now.sizes agent submarket hour) e) × (y ≡ shows e)) }
-        ensures lived { IfOk result (λ y. InEveryLife (meaning Self.Joining Self.Reversible) month.now.sizes (values Self.Joining board.now)
+        ensures lived { IfOk result (λ y. InEveryLife (meaning Self.Joining Self.Reversible.own) month.now.sizes (values Self.Joining board.now)
             (λ past. y ≡ tells (ledger past) agent submarket hour)) };
 }
 

@@ -36,7 +36,7 @@ impl Desk {
         page: &mut [u8; ROOM],
     ) -> usize
         requires board { length board.old ≡ 384 }
-        ensures does { Replied (λ line. DeskTurned (meaning E.Joining E.Reversible.own) (showing_of E.Joining E.Shown) command
+        ensures does { Replied (λ line. DeskTurned (meaning E.Joining E.Reversible.own) (showing_of E.Joining E.Shown.own) command
             (held_of E.Joining self.old board.old) line (held_of E.Joining self.new board.new))
             page.old page.new result }
         ensures within { result ≤ 64 }

@@ -65,7 +65,7 @@ impl Desk {
         hour: u16,
     ) -> Result<Reply, Fault>
         requires board { length board.now ≡ 384 }
-        ensures { PositionAsked (meaning E.Joining E.Reversible.own) (showing_of E.Joining E.Shown) agent submarket hour (held_of E.Joining self.now board.now) result }
+        ensures { PositionAsked (meaning E.Joining E.Reversible.own) (showing_of E.Joining E.Shown.own) agent submarket hour (held_of E.Joining self.now board.now) result }
     {
         let n = self.lengths.entries;
         match &self.stage {
