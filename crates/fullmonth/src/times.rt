@@ -30,7 +30,7 @@ impl Times {
 }
 
 fn show_median(rt: &HostRuntime, name: &str, call: &str, times: &mut Vec<u64>) -> io::Result<()> {
-    times.sort();
+    times.sort_unstable();
     let count = times.len();
     let median = times.get(count / 2).copied().unwrap_or(0);
     eprintln!(rt; "{name} {call} {count} {median}")

@@ -7,13 +7,9 @@ use std::io;
 use std::io::BufWriter;
 
 fn main(rt: HostRuntime) -> io::Result<()> {
+    let mut out = BufWriter::new(rt.alloc(), rt.stdout())?;
     let mut session = Session::new();
-    let result = answer_all(
-        &mut session,
-        &mut rt.stdin(),
-        &mut [0u8; BLOCK],
-        &mut BufWriter::new(rt.alloc(), rt.stdout())?,
-    );
+    let result = answer_all(&mut session, &mut rt.stdin(), &mut [0u8; BLOCK], &mut out);
     session.finish();
     result
 }

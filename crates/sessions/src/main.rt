@@ -12,13 +12,9 @@ fn hold(rt: &HostRuntime, name: &str, size: usize) -> anyhow::Result<()> {
     println!(rt; "{name}, read {size} at a time")?;
     let mut file = File::open(rt, name)?;
     let mut block = vec![in rt.alloc(); 0u8; size]?;
+    let mut out = BufWriter::new(rt.alloc(), rt.stdout())?;
     let mut session = Session::new();
-    let result = answer_all(
-        &mut session,
-        &mut file,
-        block.as_mut_slice(),
-        &mut BufWriter::new(rt.alloc(), rt.stdout())?,
-    );
+    let result = answer_all(&mut session, &mut file, block.as_mut_slice(), &mut out);
     session.finish();
     result?;
     Ok(())
