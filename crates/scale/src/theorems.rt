@@ -28,5 +28,6 @@ pub fn run_bounds() -> (u32, u32)
 pub fn rounding_lead() -> u32
     ensures { RoundsWith result down_to }
 {
-    0
+    let lead = 0;
+    lead
 }
