@@ -85,7 +85,7 @@ fn writes_replies(rt: HostRuntime) {
             spot: 1,
         },
     );
-    assert!(rt; &page[0..n] == b"no 10 1\n");
+    assert!(rt; &page[0..n] == b"no 10 1\n".as_slice());
     let n = put_reply(
         &mut page,
         Reply::AtBySource {
@@ -93,5 +93,5 @@ fn writes_replies(rt: HostRuntime) {
             incentivised: i64::MIN,
         },
     );
-    assert!(rt; &page[0..n] == b"at -2 -9223372036854775808\n");
+    assert!(rt; &page[0..n] == b"at -2 -9223372036854775808\n".as_slice());
 }
