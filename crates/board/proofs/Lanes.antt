@@ -1,9 +1,9 @@
 -- The lanes of a deal lie apart and within the board. Assumes nothing.
-use Rattle.std.proofs.Common.{◌≡◌, ℕ, zero, suc, ◌+◌, ◌-◌, ◌*◌, ◌/◌, ◌<◌, ◌≤◌, true, ◌≢◌, sym, refl, ap, ◌∙◌, le_trans, mul-le-mul_right, div-mul-le_self, mul-div_cancel, arith, lit<}
+use Rattle.std.proofs.Common.{◌≡◌, ℕ, zero, suc, ◌+◌, ◌*◌, ◌/◌, ◌<◌, ◌≤◌, true, ◌≢◌, ap, ◌∙◌, le_trans, mul-le-mul_right, div-mul-le_self, mul-div_cancel, arith, lit<}
 use native.Mathlib.Nat.{div-zero}
 use Rattle.std.proofs.lemmas.Bool.Decides.{nat_tests}
 use Rattle.board.specs.declared.deal.Deal.{Deal}
-use Rattle.board.specs.Lanes.{lane, seller_lane, buyer_lane, room_for, fitting}
+use Rattle.board.specs.Lanes.{seller_lane, buyer_lane, room_for, fitting}
 
 pub record Fit (agents : ℕ) (d : Deal) : Type 0 where
   pub seller : (1 ≤ d.seller) × (d.seller ≤ agents)

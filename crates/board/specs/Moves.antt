@@ -1,5 +1,5 @@
 -- What a move of quantities does to a board of values.
-use Rattle.std.specs.Prelude.{◌≡◌, ℕ, ◌+◌, ◌*◌, ◌<◌, ◌≤◌, Bool, true, false, cond, List, length, ◌==◌, slice_index, slice_index_or}
+use Rattle.std.specs.Prelude.{◌≡◌, ℕ, ◌+◌, ◌*◌, ◌<◌, ◌≤◌, cond, List, length, ◌==◌, slice_index, slice_index_or}
 use Rattle.entry.specs.declared.source.Source.{Source}
 use Rattle.entry.specs.Kinds.{Kind, Cancels}
 use Rattle.board.specs.declared.deal.Deal.{Deal}

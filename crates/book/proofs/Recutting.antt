@@ -1,19 +1,18 @@
 -- One class cut after another is the cut rule.
-use Rattle.std.proofs.Common.{◌≡◌, ℕ, zero, suc, ◌+◌, ◌-◌, ◌<◌, ◌≤◌, min, Bool, true, false, cond, ◌&&◌, eqb, List, [], ◌∷◌, ◌++◌, map, length, get_or, take, drop, set, replicate, Some, None, Ok, Err, sum, Result, sym, refl, ap, ◌∙◌, subst, inl, inr, add-one, arith, MatchResult}
+use Rattle.std.proofs.Common.{◌≡◌, ℕ, suc, ◌+◌, ◌-◌, ◌<◌, ◌≤◌, min, Bool, true, false, cond, ◌&&◌, eqb, List, [], ◌∷◌, ◌++◌, map, length, get_or, take, drop, set, replicate, None, Ok, Err, sum, Result, sym, refl, ap, ◌∙◌, subst, inl, inr, add-one, arith, MatchResult}
 use Rattle.std.proofs.lemmas.List.{append_assoc, append-nil, drop_all, drop_more, drop-set-lt, get_or_default, get_or-map, get_or-replicate, length-replicate, same_lists, take_all, take_more_set}
 use Rattle.std.proofs.lemmas.Bool.{and_right, cases_eq, cond-false, ne_eqb}
 use Rattle.scale.specs.Refusals.{refusal_of}
-use Rattle.scale.specs.Shares.{Rule, Sound, down_to, shares_of}
+use Rattle.scale.specs.Shares.{Rule, Sound, shares_of}
 use Rattle.scale.specs.declared.fault.Fault.{Fault}
 use Rattle.scale.proofs.Running.{length_shared}
-use Rattle.book.specs.Cuts.{Claim, claim_of, no_claim, class_cut, class_sum, class_weights, counts, cut_in, cut_shares, effective_at, left, left_by, map_from, recut, stands_for, weight, with_effective}
+use Rattle.book.specs.Cuts.{Claim, claim_of, no_claim, class_cut, class_sum, class_weights, counts, cut_in, cut_shares, effective_at, left, left_by, map_from, recut, stands_for, with_effective}
 use Rattle.book.specs.States.{in_force}
 use Rattle.book.specs.Terms.{class_number}
 use Rattle.book.specs.declared.contract.Class.{Class}
 use Rattle.book.specs.declared.contract.Class.TheVariants.{Free, Retail, Regulated, Plant}
 use Rattle.book.specs.declared.contract.Contract.{Contract}
 use Rattle.book.proofs.Cutting.{effective_of_place, part_in_sum, share_most, share_total, weight_at_lem, weight_most}
-use Rattle.book.proofs.Weighing.{weights_length}
 
 -- each element by its index
 

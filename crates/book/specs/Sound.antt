@@ -1,5 +1,5 @@
 -- What a sound book is, and the refusal of one that is not.
-use Rattle.std.specs.Prelude.{◌≡◌, ℕ, ◌+◌, ◌*◌, ◌<◌, ◌≤◌, Bool, true, false, cond, not, ◌&&◌, ◌||◌, List, [], ◌∷◌, length, take, drop, is_some, sum_by, sum, Option, ◌==◌, nat_le, slice_index, slice_index_or}
+use Rattle.std.specs.Prelude.{◌≡◌, ℕ, ◌+◌, ◌*◌, ◌<◌, ◌≤◌, Bool, true, cond, not, ◌&&◌, ◌||◌, List, [], ◌∷◌, length, take, drop, is_some, sum_by, sum, Option, ◌==◌, nat_le, slice_index, slice_index_or}
 use Rattle.scale.specs.Refusals.{Refusal, unless, first_of}
 use Rattle.book.specs.Limits.{most_total}
 use Rattle.book.specs.States.{in_force}

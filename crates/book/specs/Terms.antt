@@ -1,5 +1,5 @@
 -- The terms of a contract: their numbers, and which offers are refused.
-use Rattle.std.specs.Prelude.{◌≡◌, ℕ, ◌≤◌, Bool, not, ◌&&◌, ◌≢◌, List, [], ◌∷◌, Option, ◌==◌, nat_le}
+use Rattle.std.specs.Prelude.{◌≡◌, ℕ, ◌≤◌, not, ◌&&◌, ◌≢◌, List, [], ◌∷◌, Option, ◌==◌, nat_le}
 use Rattle.scale.specs.Refusals.{Refusal, unless}
 use Rattle.entry.specs.declared.source.Source.{Source}
 use Rattle.entry.specs.declared.source.Source.TheVariants.{Conventional, Incentivised}

@@ -1,5 +1,5 @@
 -- Within 64 bits nothing wraps: totals of words are words of totals, and an entry that means the word of a number holds that number. Assumes nothing.
-use Rattle.std.proofs.Common.{◌≡◌, ℕ, zero, suc, ◌+◌, ◌*◌, ◌^◌, ◌<◌, ◌≤◌, ℤ, pos, ◌+ℤ◌, neg_ℤ, sym, refl, ap, ◌∙◌, suc-mul, arith, w64, SFits}
+use Rattle.std.proofs.Common.{◌≡◌, ℕ, zero, suc, ◌*◌, ◌^◌, ◌<◌, ◌≤◌, ℤ, pos, neg_ℤ, sym, refl, ap, ◌∙◌, suc-mul, arith, w64, SFits}
 use lib.IntN.{neg_ℤ-+ℤ, +ℤ_assoc, +ℤ_comm, +ℤ_idr}
 use Rattle.entry.specs.declared.kinds.Net.{Net}
 use Rattle.entry.specs.declared.kinds.BySource.{BySource}

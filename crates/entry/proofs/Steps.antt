@@ -1,8 +1,8 @@
 -- A total, one entry more. Assumes nothing.
-use Rattle.std.proofs.Common.{◌≡◌, ℕ, ◌+◌, ◌-◌, ◌*◌, ◌^◌, ◌<◌, ◌≤◌, min, List, length, get_or, sym, refl, ap, ◌∙◌, add-mul, arith}
+use Rattle.std.proofs.Common.{◌≡◌, ℕ, ◌+◌, ◌-◌, ◌*◌, ◌^◌, ◌<◌, ◌≤◌, min, List, length, get_or, sym, ap, ◌∙◌, add-mul, arith}
 use Rattle.std.proofs.lemmas.List.{get_or-map, get_or_past, length-map}
 use Rattle.entry.specs.declared.joining.Joining as joining
-use Rattle.entry.specs.Kinds.{Joins, Laws, joins_in, values, up_to}
+use Rattle.entry.specs.Kinds.{joins_in, values, up_to}
 use Rattle.entry.proofs.Totals.{up_more}
 
 -- the index, which stops at the end of its range

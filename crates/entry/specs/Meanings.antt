@@ -1,5 +1,5 @@
 -- What the entries of each kind mean, and which entry a quantity has.
-use Rattle.std.specs.Prelude.{ℕ, ℤ, pos, neg_ℤ}
+use Rattle.std.specs.Prelude.{ℕ, pos, neg_ℤ}
 use Rattle.entry.specs.declared.source.Source.{Source}
 use Rattle.entry.specs.declared.source.Source.TheVariants.{Conventional, Incentivised}
 use Rattle.entry.specs.declared.kinds.Net.{Net}

@@ -1,6 +1,6 @@
 -- Words of numbers: their laws, sums and opposites, and that within limits nothing wraps. Assumes nothing.
-use Rattle.std.specs.Prelude.{◌≡◌, ℕ, zero, suc, ◌+◌, ◌-◌, ◌%◌, ◌^◌, ◌<◌, ◌≤◌, ℤ, pos, negsuc, ◌+ℤ◌, neg_ℤ, FitsSigned, refl}
-use Rattle.std.proofs.Common.{sym, ap, ◌∙◌, arith, mod-lt, to_z, of_z}
+use Rattle.std.specs.Prelude.{◌≡◌, ℕ, ◌+◌, ◌-◌, ◌%◌, ◌^◌, ◌<◌, ℤ, pos, negsuc, ◌+ℤ◌, neg_ℤ, FitsSigned, refl}
+use Rattle.std.proofs.Common.{sym, ap, ◌∙◌, arith, to_z, of_z}
 use native.Mathlib.Fin
 use Rattle.std.specs.Int.{w64}
 use mir.ValLaws.{of_z_fits}

@@ -9,13 +9,12 @@ use Rattle.scale.proofs.Running.{length_shared}
 use Rattle.entry.specs.Kinds.{Kind, Laws, joins}
 use Rattle.book.specs.declared.contract.Contract.{Contract}
 use Rattle.book.specs.declared.contract.Offer.{Offer}
-use Rattle.book.specs.declared.contract.State as state
 use Rattle.book.specs.declared.contract.State.TheVariants.{InForce, Ended}
 use Rattle.book.specs.declared.sizes.Sizes.{Sizes}
 use Rattle.book.specs.Lookup.{place_of}
 use Rattle.book.specs.Sound.{row_of}
 use Rattle.book.specs.States.{in_force}
-use Rattle.book.specs.Terms.{fields, blank}
+use Rattle.book.specs.Terms.{blank}
 use Rattle.ledger.specs.States.{State, contracts, contract_at, row_at}
 use Rattle.book.specs.Cuts.{with_effective}
 use Rattle.ledger.specs.Calls.{rounding, with_state, put_row, Resettled, Enforced, Finished, Noted}

@@ -11,7 +11,7 @@ use Rattle.book.specs.declared.sizes.Sizes.{Sizes}
 use Rattle.book.specs.Cuts.{Claim, no_claim, claim_of, effective_at, stands_for}
 use Rattle.book.specs.States.{in_force, is_in_force}
 use Rattle.book.specs.Terms.{Acceptable, fields, blank}
-use Rattle.ledger.specs.States.{State, contracts, contract_at, row_at, agent_shortfall}
+use Rattle.ledger.specs.States.{State, contract_at, row_at, agent_shortfall}
 use Rattle.ledger.specs.Calls.{rounding, Resettled}
 use Rattle.ledger.specs.Past.{Line, Ledger, no_line, line_at, stands, claim_in, effective_in}
 use Rattle.ledger.proofs.Board.{Posted, Fits, posted_next}

@@ -1,10 +1,10 @@
 -- What questions on the book answer is what the ledger tells, in every life.
-use Rattle.std.proofs.Common.{◌≡◌, ℕ, ◌+◌, ◌-◌, ◌<◌, Bool, true, cond, ◌&&◌, eqb, List, length, Some, sum_by, sym, ap, ◌∙◌, subst, inl, inr, arith}
+use Rattle.std.proofs.Common.{◌≡◌, ℕ, ◌+◌, ◌<◌, Bool, true, cond, ◌&&◌, eqb, List, length, Some, sum_by, sym, ap, ◌∙◌, subst, inl, inr, arith}
 use Rattle.std.proofs.lemmas.List.{length-take-le}
 use Rattle.std.proofs.lemmas.Bool.{cases_Bool}
 use Rattle.scale.specs.Shares.{shares_of}
 use Rattle.scale.specs.Weights.{weight_at}
-use Rattle.entry.specs.Kinds.{Kind, Laws, joins}
+use Rattle.entry.specs.Kinds.{Kind}
 use Rattle.book.specs.declared.contract.Contract.{Contract}
 use Rattle.book.specs.declared.contract.Offer.{Offer}
 use Rattle.book.specs.Lookup.{place_of}

@@ -36,8 +36,8 @@ stays old new = in_force old && (in_force new && old.effective == new.effective)
 
 -- what a place puts on a lane at an hour as its contract changes: the old quantity is taken off, the new one added
 abbrev pub changes : {V : Type 0} → Kind V → Rule → Contract → List ℕ → Contract → List ℕ → ℕ → ℕ → V
-changes k rule old oldRow new new_row l hour =
-    cond (stays old new) k.nothing (k.join (takes_off k rule old oldRow l hour) (puts k rule new new_row l hour))
+changes k rule old old_row new new_row l hour =
+    cond (stays old new) k.nothing (k.join (takes_off k rule old old_row l hour) (puts k rule new new_row l hour))
 
 -- each quantity of a contract in force cancels with its opposite
 abbrev pub AllCancel : {V : Type 0} → Kind V → Rule → ℕ → Contract → List ℕ → Type 0

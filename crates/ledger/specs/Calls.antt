@@ -1,5 +1,5 @@
 -- What each changing call answers, and what it leaves: from one state of a month to the next.
-use Rattle.std.specs.Prelude.{◌≡◌, ℕ, suc, ◌+◌, ◌-◌, ◌*◌, Bool, cond, ◌&&◌, List, [], ◌∷◌, ◌++◌, map, length, take, drop, set, replicate, Some, None, Option, slice_set}
+use Rattle.std.specs.Prelude.{◌≡◌, ℕ, ◌+◌, ◌-◌, ◌*◌, List, ◌++◌, length, take, drop, replicate, Some, None, Option, slice_set}
 use Rattle.scale.specs.Refusals.{Refusal}
 use Rattle.scale.specs.Shares.{Rule, down_to, shares_of}
 use Rattle.scale.specs.Weights.{clipped}

@@ -1,7 +1,6 @@
 -- The checks of each call, in their order: the first that fails refuses the call.
 use Rattle.std.specs.Prelude.{ℕ, ◌+◌, ◌-◌, ◌*◌, List, [], ◌∷◌, length, is_some, Some, None, Option, ◌==◌, nat_le, nat_lt}
 use Rattle.scale.specs.Refusals.{Refusal, refusal, unless, first_of}
-use Rattle.book.specs.declared.contract.Contract.{Contract}
 use Rattle.book.specs.declared.contract.Event.{Event}
 use Rattle.book.specs.declared.contract.Event.TheVariants.{Confirmation, Ending}
 use Rattle.book.specs.declared.contract.Offer.{Offer}

@@ -1,7 +1,7 @@
 -- No command is longer than a line may be.
 use Rattle.std.proofs.Common.{◌≡◌, ℕ, ◌+◌, ◌*◌, ◌^◌, ◌<◌, ◌≤◌, List, [], ◌∷◌, ◌++◌, length, Some, None, Option, ap, arith, length-append}
 use Rattle.std.proofs.lemmas.Fmt.{length-decimal-le}
-use Rattle.lines.specs.Grammar.{spaced, spelled, AllShort, InFields, written, longest, Parsed, Exact, Within}
+use Rattle.lines.specs.Grammar.{spaced, spelled, AllShort, InFields, written, longest, Parsed, Within}
 use Rattle.lines.specs.declared.command.Command.{Command}
 use Rattle.lines.specs.declared.command.Command.TheVariants.{Open, Offer, Confirm, End, Tell, Position, Close, Certificate}
 

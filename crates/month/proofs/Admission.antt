@@ -1,10 +1,8 @@
 -- What the examination of the memories says of the month's state.
-use Rattle.std.proofs.Common.{◌≡◌, ℕ, ◌-◌, ◌*◌, List, [], ◌∷◌, length, take, IfOk, Some, None, Ok, Err, Option, Result, sym, refl, ap, ◌∙◌, subst, arith, MatchResult}
+use Rattle.std.proofs.Common.{◌≡◌, ℕ, ◌-◌, List, [], ◌∷◌, length, take, IfOk, Some, None, Ok, Err, Option, Result, sym, refl, ap, ◌∙◌, subst, arith, MatchResult}
 use Rattle.std.proofs.lemmas.List.{length-map}
-use Rattle.scale.specs.declared.fault.Fault.{Fault}
-use Rattle.scale.specs.Refusals.{refusal_of, first_of}
+use Rattle.scale.specs.Refusals.{first_of}
 use Rattle.entry.specs.declared.joining.Joining as joining
-use Rattle.entry.specs.Kinds.{values}
 use Rattle.book.specs.declared.contract.Contract.{Contract}
 use Rattle.book.specs.Sound.{book_check, SoundBook}
 use Rattle.ledger.specs.Checks.{admitted, length_check, lengths_of}

@@ -1,18 +1,16 @@
 -- What an event on a contract of a sound book leaves, and that board and places can follow it.
-use Rattle.std.proofs.Common.{◌≡◌, ℕ, ◌+◌, ◌-◌, ◌*◌, ◌<◌, ◌≤◌, Bool, true, false, cond, ◌&&◌, ◌≢◌, ◌⊎◌, List, [], ◌∷◌, ◌++◌, length, get_or, take, drop, set, Some, None, sum_by, sum, Option, sym, refl, ap, ◌∙◌, subst, inl, inr, arith}
-use Rattle.std.proofs.lemmas.List.{get_or-set_same, get_or-set_other, length-set, length-take-le}
+use Rattle.std.proofs.Common.{◌≡◌, ℕ, ◌+◌, ◌*◌, ◌<◌, ◌≤◌, true, false, List, length, get_or, take, set, Some, None, sum, Option, sym, refl, ap, ◌∙◌, subst, inl, inr, arith}
+use Rattle.std.proofs.lemmas.List.{get_or-set_same, get_or-set_other, length-set}
 use Rattle.std.proofs.lemmas.List.Sums.{sum_by-set}
-use Rattle.std.proofs.lemmas.Bool.{cases_eq, cond-false, and_left, true≢false}
+use Rattle.std.proofs.lemmas.Bool.{cases_eq, cond-false, and_left}
 use Rattle.scale.specs.Totals.{limit}
 use Rattle.entry.specs.Kinds.{Kind, Laws, joins}
 use Rattle.book.specs.declared.contract.Contract.{Contract}
 use Rattle.book.specs.declared.contract.Event.TheVariants.{Confirmation, Ending}
-use Rattle.book.specs.declared.contract.Offer.{Offer}
 use Rattle.book.specs.declared.contract.State as state
 use Rattle.book.specs.declared.contract.State.TheVariants.{Offered, InForce, Ended}
 use Rattle.book.specs.declared.contract.Terms.{Terms}
 use Rattle.book.specs.declared.sizes.Sizes.{Sizes}
-use Rattle.book.specs.Cuts.{recut}
 use Rattle.book.specs.Limits.{most_total}
 use Rattle.book.specs.Sound.{SoundBook, row_of, seller_total, sold_by}
 use Rattle.book.specs.States.{in_force, state_after}

@@ -1,7 +1,7 @@
 -- Checks that passed, one after another.
 use Rattle.std.proofs.Common.{◌≡◌, ℕ, ◌*◌, ◌≤◌, Bool, true, false, leb, List, [], ◌∷◌, Some, None, Option, sym, refl, ◌∙◌, arith}
 use Rattle.std.proofs.lemmas.Bool.{eqb-true, leb-true, and_parts}
-use Rattle.scale.specs.Refusals.{Refusal, refusal, unless, first_of}
+use Rattle.scale.specs.Refusals.{Refusal, unless, first_of}
 use Rattle.book.specs.Limits.{between}
 use Rattle.ledger.specs.Checks.{length_check}
 

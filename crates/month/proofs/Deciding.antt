@@ -1,11 +1,11 @@
 -- The checks of a call by number, once the contract is found.
-use Rattle.std.proofs.Common.{◌≡◌, ℕ, ◌+◌, ◌-◌, ◌<◌, ◌≤◌, Bool, leb, List, [], ◌∷◌, length, get_or, take, is_some, Some, None, Option, sym, refl, ap, ◌∙◌, subst, arith}
+use Rattle.std.proofs.Common.{◌≡◌, ℕ, ◌+◌, ◌-◌, ◌<◌, ◌≤◌, Bool, leb, List, [], ◌∷◌, length, get_or, take, is_some, Some, None, Option, sym, refl, ap, ◌∙◌, arith}
 use Rattle.std.proofs.lemmas.List.{get_or-take, length-take-le}
-use Rattle.scale.specs.Refusals.{Refusal, refusal, unless, first_of}
+use Rattle.scale.specs.Refusals.{Refusal, unless, first_of}
 use Rattle.entry.specs.declared.joining.Joining as joining
 use Rattle.book.specs.declared.contract.Contract.{Contract}
 use Rattle.book.specs.declared.contract.Event.{Event}
-use Rattle.book.specs.declared.contract.Event.TheVariants.{Confirmation, Ending}
+use Rattle.book.specs.declared.contract.Event.TheVariants.{Confirmation}
 use Rattle.book.specs.Limits.{between, most_total}
 use Rattle.book.specs.Lookup.{FirstPlace, place_of}
 use Rattle.book.specs.Sound.{seller_total}

@@ -1,24 +1,22 @@
 -- A confirmation, from what was chosen and supplied to the next state of the month.
-use Rattle.std.proofs.Common.{◌≡◌, ℕ, ◌+◌, ◌-◌, ◌*◌, ◌<◌, ◌≤◌, Bool, true, false, leb, ◌≢◌, List, [], ◌∷◌, length, get_or, take, set, None, sum, sym, refl, ap, ◌∙◌, subst, arith}
+use Rattle.std.proofs.Common.{◌≡◌, ℕ, ◌+◌, ◌-◌, ◌*◌, ◌<◌, ◌≤◌, true, false, leb, List, [], ◌∷◌, length, get_or, set, None, sum, sym, refl, ap, ◌∙◌, subst, arith}
 use Rattle.std.proofs.lemmas.Bool.{false≢true, leb-true, cond-true, and_from, eq-eqb}
-use Rattle.scale.specs.Refusals.{unless, first_of}
-use Rattle.scale.specs.Shares.{down_to, shares_of, shared_by}
+use Rattle.scale.specs.Refusals.{unless}
+use Rattle.scale.specs.Shares.{down_to, shares_of}
 use Rattle.scale.specs.Totals.{limit, passed_at, total_check}
 use Rattle.scale.specs.Weights.{clipped}
 use Rattle.scale.proofs.Parts.{length_clipped_from}
 use Rattle.scale.proofs.Running.{down_sound, length_shared, of_total}
 use Rattle.entry.specs.Kinds.{Kind, Laws, joins}
 use Rattle.book.specs.declared.contract.Contract.{Contract}
-use Rattle.book.specs.declared.contract.State.TheVariants.{InForce, Offered}
 use Rattle.book.specs.Limits.{most_total}
 use Rattle.book.specs.Sound.{row_of, seller_total, sold_by}
 use Rattle.book.specs.States.{in_force, is_in_force}
 use Rattle.book.specs.Terms.{blank}
 use Rattle.ledger.specs.Calls.{Enforced, enforced, put_row, rounding}
-use Rattle.ledger.specs.States.{State, contracts, contract_at, row_at, agent_shortfall}
+use Rattle.ledger.specs.States.{State, contracts, contract_at, agent_shortfall}
 use Rattle.ledger.proofs.Rows.{length_put, row_here, row_there}
 use Rattle.settle.specs.Settled.{Ready}
-use Rattle.month.specs.Months.{Admitted}
 use Rattle.month.specs.Settling.{Chosen, Settled, Supplied}
 use Rattle.month.proofs.Changing.{ready_changed, resettled, sells_none, sold_changed}
 use Rattle.month.proofs.Checked.{held, passed}

@@ -1,13 +1,12 @@
 -- An ending and a telling, from what was admitted to the next state of the month.
-use Rattle.std.proofs.Common.{◌≡◌, ℕ, ◌+◌, ◌-◌, ◌*◌, ◌<◌, ◌≤◌, Bool, true, false, List, length, get_or, take, set, sum, sym, refl, ap, ◌∙◌, subst, mul-le-mul_right, arith}
+use Rattle.std.proofs.Common.{◌≡◌, ℕ, ◌+◌, ◌-◌, ◌*◌, ◌<◌, ◌≤◌, false, List, length, get_or, set, sym, refl, ap, ◌∙◌, subst, mul-le-mul_right, arith}
 use Rattle.std.proofs.lemmas.List.{get_or-set_same, length-take-le}
 use Rattle.std.proofs.lemmas.Bool.{false≢true}
 use Rattle.entry.specs.Kinds.{Kind, Laws, joins}
 use Rattle.book.specs.declared.contract.Contract.{Contract}
 use Rattle.book.specs.Limits.{most_total}
-use Rattle.book.specs.Sound.{row_of, seller_total, sold_by}
+use Rattle.book.specs.Sound.{row_of, seller_total}
 use Rattle.book.specs.States.{in_force}
-use Rattle.book.specs.Terms.{blank}
 use Rattle.ledger.proofs.Rows.{row_before}
 use Rattle.ledger.specs.Calls.{ended, Finished, Noted}
 use Rattle.ledger.specs.States.{State, contracts, contract_at, agent_shortfall}

@@ -1,9 +1,9 @@
 -- The row of a contract that can be supplied, and the state of the month once it is written.
-use Rattle.std.proofs.Common.{◌≡◌, ℕ, ◌+◌, ◌-◌, ◌*◌, ◌<◌, ◌≤◌, Bool, true, false, eqb, ◌≢◌, ◌⊎◌, List, [], ◌∷◌, ◌++◌, length, get_or, take, drop, set, Some, None, Ok, Err, Option, Result, sym, refl, ap, ◌∙◌, subst, inl, inr, arith, MatchResult}
-use borrow.Rule.Slice.PartMut.{mid_of, post_of, Post-is, put_mid}
+use Rattle.std.proofs.Common.{◌≡◌, ℕ, ◌+◌, ◌-◌, ◌*◌, ◌≤◌, eqb, List, [], ◌∷◌, ◌++◌, length, take, None, Ok, Err, Result, sym, ap, ◌∙◌, arith, MatchResult}
+use borrow.Rule.Slice.PartMut.{Post-is, put_mid}
 use Rattle.std.proofs.lemmas.Bool.{eqb-true}
 use Rattle.scale.specs.declared.fault.Fault.{Fault}
-use Rattle.scale.specs.Refusals.{Refusal, refusal_of, unless, first_of}
+use Rattle.scale.specs.Refusals.{refusal_of, unless}
 use Rattle.scale.specs.Shares.{Shared, down_to, share_check, shares_of}
 use Rattle.scale.specs.Totals.{limit, total_check}
 use Rattle.scale.specs.Weights.{clipped}

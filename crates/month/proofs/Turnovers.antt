@@ -1,12 +1,11 @@
 -- The turnover of an agent, one contract after another, and that nothing wraps.
-use Rattle.std.proofs.Common.{◌≡◌, ℕ, zero, suc, ◌+◌, ◌*◌, ◌^◌, ◌<◌, ◌≤◌, Bool, true, false, cond, ◌&&◌, List, [], ◌∷◌, map, length, get_or, take, set, sum_by, sym, refl, ap, ◌∙◌, add-one, arith}
-use Rattle.std.proofs.lemmas.List.Edits.{fill_by_more}
+use Rattle.std.proofs.Common.{◌≡◌, ℕ, zero, suc, ◌+◌, ◌*◌, ◌^◌, ◌<◌, ◌≤◌, Bool, true, false, cond, List, map, length, get_or, take, sum_by, sym, refl, ap, ◌∙◌, add-one, arith}
 use Rattle.std.proofs.lemmas.List.{get_or-map, take_all}
 use Rattle.std.proofs.lemmas.List.Sums.{sum_by_more}
 use Rattle.entry.specs.declared.kinds.Turnover.{Turnover}
 use Rattle.entry.specs.Kinds.{up_to}
 use Rattle.entry.specs.Meanings.{turnover_value}
-use Rattle.entry.specs.Words.{Word, word, Words, no_words, both_joins, word_joins, naturals}
+use Rattle.entry.specs.Words.{word, no_words, both_joins, word_joins, naturals}
 use Rattle.entry.proofs.Exact.{up_both, up_word, up_at_most, turnover_exact}
 use Rattle.entry.proofs.Totals.{up_same}
 use Rattle.entry.specs.Wrap.{both_laws}

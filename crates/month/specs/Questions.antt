@@ -1,5 +1,5 @@
 -- What the questions answer.
-use Rattle.std.specs.Prelude.{◌≡◌, ℕ, ◌+◌, ◌-◌, ◌*◌, Bool, cond, ◌&&◌, List, sum_by, ◌==◌}
+use Rattle.std.specs.Prelude.{◌≡◌, ℕ, ◌+◌, ◌-◌, ◌*◌, cond, ◌&&◌, List, sum_by, ◌==◌}
 use Rattle.scale.specs.Shares.{shares_of}
 use Rattle.scale.specs.Weights.{weight_at}
 use Rattle.entry.specs.Kinds.{Kind}

@@ -1,6 +1,6 @@
 -- A contract's quantities put on the board, or taken off it. Assumes nothing.
-use Rattle.std.proofs.Common.{◌≡◌, ℕ, ◌<◌, Bool, true, false, cond, List, length, get_or, sym, refl, ap, ◌∙◌, subst}
-use Rattle.std.proofs.lemmas.Bool.{cond-true, cond-false, both_ways}
+use Rattle.std.proofs.Common.{◌≡◌, ℕ, Bool, true, false, cond, List, length, get_or, sym, refl, ap, ◌∙◌, subst}
+use Rattle.std.proofs.lemmas.Bool.{cond-true, cond-false}
 use Rattle.scale.specs.Shares.{shares_of}
 use Rattle.entry.specs.Kinds.{Kind, Laws, joins}
 use Rattle.board.specs.declared.deal.Deal.{Deal}
@@ -11,7 +11,7 @@ use Rattle.book.specs.States.{in_force}
 use Rattle.board.specs.Moves.{cell, share}
 use Rattle.ledger.specs.Boards.{seller_lane, buyer_lane, puts, takes_off, changes, stays, AllCancel}
 use Rattle.ledger.specs.Calls.{rounding}
-use Rattle.settle.specs.Following.{contract_deal, Movable, Joined, BothCancel}
+use Rattle.settle.specs.Following.{contract_deal, Movable, Joined}
 
 module _ {V : Type 0} (k : Kind V) (c : Contract) (row : List ℕ) (old new : List V) where
   -- what is moved is joined to every lane, and cancels

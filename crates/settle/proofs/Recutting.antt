@@ -1,10 +1,9 @@
 -- What is cut anew is still ready for the board.
-use Rattle.std.proofs.Common.{◌≡◌, ℕ, ◌*◌, ◌<◌, ◌≤◌, Bool, true, false, cond, leb, List, [], ◌∷◌, map, length, get_or, None, Ok, Err, Result, sym, refl, ap, ◌∙◌, subst, arith, MatchResult}
+use Rattle.std.proofs.Common.{◌≡◌, ℕ, ◌<◌, ◌≤◌, Bool, true, false, cond, leb, List, [], ◌∷◌, map, length, get_or, None, Ok, Err, Result, sym, ap, ◌∙◌, subst, arith, MatchResult}
 use Rattle.std.proofs.lemmas.Bool.{le-leb}
 use Rattle.scale.specs.declared.fault.Fault.{Fault}
-use Rattle.scale.specs.Refusals.{Refusal, refusal_of, unless, first_of}
+use Rattle.scale.specs.Refusals.{refusal_of, unless, first_of}
 use Rattle.scale.specs.Shares.{Rule}
-use Rattle.scale.specs.Totals.{limit}
 use Rattle.book.specs.declared.contract.Contract.{Contract}
 use Rattle.book.specs.declared.sizes.Sizes.{Sizes}
 use Rattle.book.specs.Cuts.{claim_of, effective_at, recut, recut_check, stands_for, with_effective}

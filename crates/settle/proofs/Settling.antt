@@ -1,5 +1,5 @@
 -- The board follows place after place. Assumes nothing.
-use Rattle.std.proofs.Common.{◌≡◌, ℕ, zero, suc, ◌+◌, ◌-◌, ◌*◌, ◌<◌, ◌≤◌, Bool, true, false, cond, ◌⊎◌, List, length, get_or, take, drop, sym, refl, ap, ◌∙◌, subst, inl, inr, le_trans, mul-le-mul_right, add-mul, one-mul, arith}
+use Rattle.std.proofs.Common.{◌≡◌, ℕ, ◌+◌, ◌-◌, ◌*◌, ◌<◌, ◌≤◌, false, List, length, get_or, take, drop, sym, refl, ap, ◌∙◌, subst, inl, inr, le_trans, mul-le-mul_right, add-mul, one-mul, arith}
 use Rattle.std.proofs.lemmas.List.{get_or-take, get_or_default, length-take-le, length-drop}
 use Rattle.std.proofs.lemmas.Bool.{cases_eq}
 use Rattle.entry.specs.Kinds.{Kind, Laws, joins, up_to}

@@ -7,7 +7,7 @@ use Rattle.board.specs.Lanes.{room_for, fitting}
 use Rattle.book.specs.declared.contract.Contract.{Contract}
 use Rattle.book.specs.States.{in_force}
 use Rattle.board.specs.Moves.{cell}
-use Rattle.ledger.specs.Boards.{changes, stays, AllCancel}
+use Rattle.ledger.specs.Boards.{stays, AllCancel}
 use Rattle.ledger.specs.Calls.{rounding}
 
 -- who sells to whom under a contract, and where

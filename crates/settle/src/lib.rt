@@ -5,7 +5,7 @@ ghost use Rattle.std.specs.Prelude.{◌≡◌, ◌<◌, ◌≤◌, length, sum, 
 ghost use Rattle.scale.specs.Shares.{shares_of};
 ghost use Rattle.scale.specs.Totals.{limit};
 ghost use Rattle.entry.specs.Kinds.{meaning, values};
-ghost use Rattle.book.specs.Cuts.{recut as recutBy};
+ghost use Rattle.book.specs.Cuts.{recut as recut_by};
 ghost use Rattle.book.specs.Limits.{most_places, most_total};
 ghost use Rattle.book.specs.Sound.{seller_total};
 ghost use Rattle.ledger.specs.Boards.{changes, puts, stays as unmoved, takes_off, AllCancel, Revised};
@@ -158,7 +158,7 @@ fn resettle<E: Reversible>(
     requires ready { Ready sizes.now taken.old after.old rows.now (length board.old) }
     requires places { length after.old ≤ most_places }
     requires moderate { seller_total seller after.old ≤ most_total }
-    ensures taken { taken.new ≡ recutBy rounding seller shortfall after.old }
+    ensures taken { taken.new ≡ recut_by rounding seller shortfall after.old }
     ensures board { Revised (meaning E.Joining E.Reversible.own) rounding
         (booked sizes.now taken.old rows.now (values E.Joining board.old))
         (booked sizes.now taken.new rows.now (values E.Joining board.new)) }
@@ -179,7 +179,7 @@ pub fn settle_all<E: Reversible>(
     requires ready { Ready sizes.now taken.old taken.old rows.now (length board.old) }
     requires places { length taken.old ≤ most_places }
     requires moderate { seller_total seller taken.old ≤ most_total }
-    ensures taken { taken.new ≡ recutBy rounding seller shortfall taken.old }
+    ensures taken { taken.new ≡ recut_by rounding seller shortfall taken.old }
     ensures board { Revised (meaning E.Joining E.Reversible.own) rounding
         (booked sizes.now taken.old rows.now (values E.Joining board.old))
         (booked sizes.now taken.new rows.now (values E.Joining board.new)) }
@@ -204,7 +204,7 @@ pub fn settle_place<E: Reversible>(
     requires ready { Ready sizes.now taken.old (slice_set taken.old index changed) rows.now (length board.old) }
     requires places { length taken.old ≤ most_places }
     requires moderate { seller_total changed.terms.seller (slice_set taken.old index changed) ≤ most_total }
-    ensures taken { taken.new ≡ recutBy rounding changed.terms.seller shortfall (slice_set taken.old index changed) }
+    ensures taken { taken.new ≡ recut_by rounding changed.terms.seller shortfall (slice_set taken.old index changed) }
     ensures board { Revised (meaning E.Joining E.Reversible.own) rounding
         (booked sizes.now taken.old rows.now (values E.Joining board.old))
         (booked sizes.now taken.new rows.now (values E.Joining board.new)) }

@@ -1,4 +1,4 @@
-use Rattle.std.proofs.Common.{ℕ, length, get_or}
+use Rattle.std.proofs.Common.{length, get_or}
 use Rattle.entry.specs.Kinds.{meaning, values}
 use Rattle.board.specs.Moves.{Moved}
 use Rattle.board.proofs.transfer.Given as goal

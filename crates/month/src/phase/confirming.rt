@@ -2,7 +2,7 @@
 ghost use Rattle.std.specs.Prelude.{◌≡◌, ◌+◌, ◌*◌, ◌≤◌, length, IfOk, None};
 ghost use Rattle.scale.specs.Refusals.{refusal_of};
 ghost use Rattle.scale.specs.Shares.{shares_of};
-ghost use Rattle.scale.specs.Totals.{limit as mostShared};
+ghost use Rattle.scale.specs.Totals.{limit as most_shared};
 ghost use Rattle.scale.specs.Weights.{clipped};
 ghost use Rattle.entry.specs.Kinds.{meaning};
 ghost use Rattle.book.specs.Supply.{supply_check};
@@ -29,7 +29,7 @@ use scale::weights::Scale;
 fn write_row<S: Scale>(rows: &mut [u32], index: usize, hours: usize, terms: &Terms, scale: &S)
     requires room { index * hours + hours ≤ length rows.old }
     requires supply { supply_check hours terms.now (S.Scale.weights scale.now) ≡ None }
-    requires amount { terms.now.amount ≤ mostShared }
+    requires amount { terms.now.amount ≤ most_shared }
     ensures { rows.new ≡ put_row hours index (shares_of rounding terms.now.amount (clipped terms.now.first terms.now.last (S.Scale.weights scale.now))) rows.old }
 {
     let start = index * hours;

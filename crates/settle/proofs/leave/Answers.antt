@@ -1,4 +1,4 @@
-use Rattle.std.proofs.Common.{length, sym, ◌∙◌, arith}
+use Rattle.std.proofs.Common.{length, sym, ◌∙◌}
 use Rattle.entry.specs.Kinds.{meaning, values}
 use Rattle.settle.proofs.Following.{leaves}
 use Rattle.settle.proofs.leave.Goals as goal

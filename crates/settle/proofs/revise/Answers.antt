@@ -1,4 +1,4 @@
-use Rattle.std.proofs.Common.{◌≡◌, ℕ, ◌+◌, ◌-◌, ◌*◌, ◌<◌, ◌≤◌, length, take, drop, sym, refl, ap, ◌∙◌, arith, rules}
+use Rattle.std.proofs.Common.{◌≡◌, ◌+◌, ◌-◌, ◌*◌, ◌<◌, ◌≤◌, length, take, drop, sym, refl, ap, ◌∙◌, arith, rules}
 use Rattle.entry.specs.Kinds.{meaning, values}
 use Rattle.settle.proofs.Settling.{covered_to, covered_from, row_of_lem, row_long, movable_at, followed_more, followed_all, booked_at}
 use Rattle.settle.proofs.revise.Goals as goal

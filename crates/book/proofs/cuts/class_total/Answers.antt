@@ -1,4 +1,4 @@
-use Rattle.std.proofs.Common.{ℕ, ◌+◌, take, sum_by, sym, ap, ◌∙◌, arith}
+use Rattle.std.proofs.Common.{ℕ, sum_by, sym, ap, ◌∙◌, arith}
 use Rattle.std.proofs.lemmas.List.{take_all}
 use Rattle.std.proofs.lemmas.List.Sums.{sum_by_more}
 use Rattle.book.specs.Cuts.{claim_of, weight}

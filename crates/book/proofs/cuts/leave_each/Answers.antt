@@ -1,6 +1,6 @@
-use Rattle.std.proofs.Common.{ℕ, ◌+◌, ◌<◌, ◌≢◌, length, get_or, ◌∙◌, arith}
+use Rattle.std.proofs.Common.{ℕ, get_or, ◌∙◌, arith}
 use Rattle.std.proofs.lemmas.List.{get_or-set_other}
-use Rattle.book.specs.Cuts.{left, left_by}
+use Rattle.book.specs.Cuts.{left}
 use Rattle.book.specs.Terms.{blank, class_number}
 use Rattle.book.specs.declared.contract.Contract.{Contract}
 use Rattle.book.proofs.Recutting.{map_from_step, map_from_done}

@@ -1,8 +1,7 @@
-use Rattle.std.proofs.Common.{◌≡◌, ℕ, ◌+◌, ◌<◌, ◌≤◌, min, Bool, true, false, ◌&&◌, leb, length, get_or, drop, sym, refl, ap, ◌∙◌, zero-mul, arith}
+use Rattle.std.proofs.Common.{◌≡◌, ℕ, ◌≤◌, min, false, length, get_or, drop, sym, refl, ap, ◌∙◌, zero-mul, arith}
 use Rattle.std.proofs.lemmas.List.{at_drop_all, get_or-replicate}
 use Rattle.std.proofs.lemmas.Bool.{and_from, and_left, and_right, leb-true}
 use Rattle.scale.specs.Refusals.{first_of}
-use Rattle.book.specs.Limits.{most_total}
 use Rattle.book.specs.Sound.{place_checks, sound_place}
 use Rattle.book.specs.Terms.{blank}
 use Rattle.book.proofs.Checking.{fails, passes, place_is, place_passes, place_fails, rest_more, row_here, still_moderate, sound_book, total_more}

@@ -1,6 +1,4 @@
-use Rattle.std.proofs.Common.{◌≡◌, ℕ, ◌+◌, ◌-◌, ◌*◌, ◌^◌, ◌<◌, ◌≤◌, min, length, get_or, sym, refl, ap, ◌∙◌, add-mul, arith, rules}
-use Rattle.entry.specs.Kinds.{Joins, joins_in, values, up_to}
-use Rattle.entry.proofs.Totals.{up_more}
+use Rattle.std.proofs.Common.{◌^◌, ◌<◌, length, ap, ◌∙◌, rules}
 use Rattle.entry.proofs.Steps.{step_in, step_past, at_more}
 use Rattle.entry.proofs.total.total.Goals as goal
 use Rattle.entry.proofs.total.total.Goals.{then-at-entries, else-at-entries}

@@ -1,6 +1,6 @@
-use Rattle.std.proofs.Common.{length, take, sym, refl, ap, ◌∙◌, subst, arith, length-set, length-take-le, rules}
+use Rattle.std.proofs.Common.{refl, ◌∙◌, arith, length-set, length-take-le}
 use Rattle.std.proofs.lemmas.List.{take_more_set}
-use Rattle.lines.proofs.Spelled.{Sofar, Cut, cut_at, too_many, no_space, no_number, one_more, done}
+use Rattle.lines.proofs.Spelled.{cut_at, too_many, no_space, no_number, one_more, done}
 use Rattle.lines.proofs.parse.read_numbers.Goals as goal
 
 pub returns-then-count-eq9 : goal.returns-then-count-eq9

@@ -1,4 +1,4 @@
-use Rattle.std.proofs.Common.{sym, refl, ap, ◌∙◌, arith, rules}
+use Rattle.std.proofs.Common.{◌∙◌, arith, rules}
 use Rattle.page.proofs.Over.{over_digit, over_step, length_digit, length_step}
 use Rattle.page.proofs.put.+put_number.Goals as goal
 

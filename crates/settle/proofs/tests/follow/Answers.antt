@@ -1,4 +1,4 @@
-use Rattle.std.proofs.Common.{◌≡◌, ℕ, ◌*◌, ◌≤◌, length, sym, ap, ◌∙◌, arith, rules}
+use Rattle.std.proofs.Common.{◌≡◌, ℕ, ◌*◌, length, ap, ◌∙◌, rules}
 use Rattle.settle.proofs.Between.{ready_sound}
 use Rattle.settle.proofs.tests.follow.Goals as goal
 

@@ -1,4 +1,4 @@
-use Rattle.std.proofs.Common.{◌≡◌, sym, ap, ◌∙◌, w64, SFits, rules}
+use Rattle.std.proofs.Common.{sym, ap, ◌∙◌, w64, SFits, rules}
 use Rattle.entry.specs.Words.{plus, word_of}
 use Rattle.entry.specs.Wrap.{negates, of_neg, cancels}
 use Rattle.entry.proofs.by_source.BySourceReversible.opposite.Goals as goal

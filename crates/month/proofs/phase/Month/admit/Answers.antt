@@ -1,4 +1,4 @@
-use Rattle.std.proofs.Common.{◌≡◌, ◌∙◌, rules}
+use Rattle.std.proofs.Common.{◌∙◌, rules}
 use Rattle.std.proofs.lemmas.List.{length-map}
 use Rattle.month.proofs.Admission.{book_decides, admits, made_of}
 use Rattle.month.proofs.phase.Month.admit.Goals as goal

@@ -1,8 +1,7 @@
 -- Admitted, found, an hour of the month, in force: each check that passed hands on to the next.
-use Rattle.std.proofs.Common.{◌≡◌, ℕ, ◌-◌, ◌≤◌, Bool, true, false, [], ◌∷◌, length, get_or, Some, None, sym, refl, ap, ◌∙◌, arith}
+use Rattle.std.proofs.Common.{◌≡◌, ℕ, ◌-◌, ◌≤◌, Bool, true, [], length, get_or, Some, sym, ap, ◌∙◌, arith}
 use Rattle.std.proofs.lemmas.Result.{err_from_is_err_and}
 use Rattle.scale.specs.Refusals.{refusal_of, unless}
-use Rattle.book.specs.declared.contract.Contract.{Contract}
 use Rattle.book.specs.Limits.{between}
 use Rattle.book.specs.States.{in_force}
 use Rattle.book.specs.Terms.{blank}

@@ -1,5 +1,5 @@
 -- The contract is in force in a sound book, so its quantity is not refused.
-use Rattle.std.proofs.Common.{◌≡◌, ℕ, ◌+◌, ◌*◌, ◌≤◌, length, sym, ap, ◌∙◌, subst, rules}
+use Rattle.std.proofs.Common.{ℕ, ◌+◌, ◌*◌, ◌≤◌, length, sym, ◌∙◌, subst, rules}
 use Rattle.month.specs.Months.{state_of}
 use Rattle.month.proofs.Finishing.{row_fits}
 use Rattle.month.proofs.Quantities.{fine, quantity_is, quantity_lives, row_lent}

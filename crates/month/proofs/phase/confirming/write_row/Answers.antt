@@ -1,5 +1,5 @@
 -- The supply was examined, so the sharing is not refused, and the row is written where it was lent.
-use Rattle.std.proofs.Common.{◌≡◌, ℕ, ◌+◌, ◌-◌, ◌*◌, length, take, drop, sym, ap, ◌∙◌, arith}
+use Rattle.std.proofs.Common.{◌≡◌, ◌+◌, ◌-◌, ◌*◌, length, take, drop, ap, ◌∙◌, arith}
 use Rattle.std.proofs.lemmas.List.{length-drop, length-take-le}
 use Rattle.scale.specs.Weights.{clipped}
 use Rattle.ledger.specs.Calls.{put_row}

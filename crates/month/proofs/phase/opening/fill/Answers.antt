@@ -1,4 +1,4 @@
-use Rattle.std.proofs.Common.{◌≡◌, ℕ, ◌<◌, length, replicate, sym, ◌∙◌, arith}
+use Rattle.std.proofs.Common.{◌<◌, length, replicate, sym, ◌∙◌, arith}
 use Rattle.std.proofs.lemmas.List.Edits.{fill_by_more}
 use Rattle.std.proofs.lemmas.List.{ext_get_or, get_or-replicate, length-replicate}
 use Rattle.month.proofs.phase.opening.fill.Goals as goal

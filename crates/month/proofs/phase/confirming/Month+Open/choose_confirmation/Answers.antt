@@ -1,10 +1,9 @@
 -- Admitted, found, allowed, fitting, supplied, within the seller's limit: each check that passed hands on to the next.
-use Rattle.std.proofs.Common.{◌≡◌, ℕ, ◌+◌, ◌-◌, ◌≤◌, Bool, true, false, leb, [], ◌∷◌, length, get_or, take, Some, None, sym, refl, ap, ◌∙◌, subst, arith}
+use Rattle.std.proofs.Common.{◌≡◌, ℕ, ◌+◌, ◌-◌, ◌≤◌, Bool, leb, [], length, get_or, Some, None, sym, ap, ◌∙◌, arith}
 use Rattle.std.proofs.lemmas.Result.{err_from_is_err_and}
 use Rattle.std.proofs.lemmas.Bool.{leb-true}
 use Rattle.scale.specs.Refusals.{refusal_of, unless}
 use Rattle.book.specs.declared.contract.Contract.{Contract}
-use Rattle.book.specs.declared.contract.Event.TheVariants.{Confirmation}
 use Rattle.book.specs.declared.contract.State.{State}
 use Rattle.book.specs.Limits.{most_total}
 use Rattle.book.specs.Sound.{seller_total}

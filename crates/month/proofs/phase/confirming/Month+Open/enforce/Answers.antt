@@ -1,5 +1,5 @@
 -- The row fits its place, the book is ready for the board, and the next state is that of a confirmation.
-use Rattle.std.proofs.Common.{◌≡◌, ℕ, ◌+◌, ◌*◌, ◌≤◌, List, length, take, set, None, sym, refl, ap, ◌∙◌, subst}
+use Rattle.std.proofs.Common.{ℕ, ◌+◌, ◌*◌, ◌≤◌, List, length, take, set, sym, refl, ap, ◌∙◌, subst}
 use Rattle.std.proofs.lemmas.List.{length-map}
 use Rattle.scale.specs.Totals.{limit}
 use Rattle.entry.specs.Kinds.{meaning, values}

@@ -1,8 +1,7 @@
 -- Admitted, found, allowed, fitting: each check that passed hands on to the next.
-use Rattle.std.proofs.Common.{◌≡◌, ℕ, ◌-◌, ◌≤◌, length, get_or, Some, sym, refl, ap, ◌∙◌, subst, arith}
+use Rattle.std.proofs.Common.{◌-◌, ◌≤◌, length, get_or, Some, sym, ap, ◌∙◌, arith}
 use Rattle.std.proofs.lemmas.Result.{err_from_is_err_and}
 use Rattle.scale.specs.Refusals.{refusal_of}
-use Rattle.book.specs.declared.contract.Contract.{Contract}
 use Rattle.book.specs.declared.contract.Event.TheVariants.{Ending}
 use Rattle.book.specs.declared.contract.State.{State}
 use Rattle.book.specs.Terms.{blank}

@@ -1,5 +1,5 @@
 -- Each check that passed hands on to the next; once all have, the next place is taken.
-use Rattle.std.proofs.Common.{◌≡◌, ℕ, ◌<◌, ltb, List, sym, refl, ap, ◌∙◌, arith}
+use Rattle.std.proofs.Common.{◌<◌, List, sym, refl, ap, ◌∙◌, arith}
 use Rattle.std.proofs.lemmas.Result.{err_from_is_err_and}
 use Rattle.std.proofs.lemmas.Bool.{lt-ltb}
 use Rattle.scale.specs.Refusals.{refusal_of, unless}

@@ -1,8 +1,6 @@
 -- Every check passed, so the lengths are right, and what was written is the opened month.
-use Rattle.std.proofs.Common.{◌≡◌, ℕ, ◌*◌, map, length, replicate, None, Option, sym, refl, ap, ◌∙◌, subst}
+use Rattle.std.proofs.Common.{ℕ, map, length, replicate, refl, ap, ◌∙◌}
 use lib.LanesLaws.{map-replicate}
-use Rattle.scale.specs.Refusals.{Refusal}
-use Rattle.ledger.specs.Checks.{length_check}
 use Rattle.entry.specs.Kinds.{meaning}
 use Rattle.ledger.specs.Calls.{Opened}
 use Rattle.ledger.proofs.Law.{opens}
