@@ -1,5 +1,5 @@
 -- Every life of a session goes on, and balances.
-use Rattle.std.proofs.Common.{◌≡◌, ℕ, zero, suc, Bool, true, false, ◌⊎◌, List, [], ◌∷◌, Some, None, MatchBool, Option, sym, refl, ap, ◌∙◌, subst, inl, inr}
+use Rattle.std.proofs.Common.{◌≡◌, ℕ, zero, suc, Bool, true, false, List, [], ◌∷◌, Some, None, MatchBool, Option, sym, refl, ap, subst, inl, inr}
 use Rattle.scale.specs.Refusals.{Refusal}
 use Rattle.entry.specs.Kinds.{Kind, Laws, joins}
 use Rattle.entry.specs.Meanings.{net_kind, by_source_kind}
@@ -16,8 +16,8 @@ use Rattle.session.specs.Held.{Held}
 use Rattle.session.specs.Lives.{Lives, Balances, Grown, LivesOn}
 use Rattle.session.specs.Opening.{Begun}
 use Rattle.session.specs.Seen.{Seen, none, net, by_source, seen_as, net_showing, by_source_showing}
-use Rattle.session.specs.Steps.{Opens, OpensAs, First, Stepped}
-use Rattle.session.specs.Turns.{Showing, Turned, Changes, Called, Refused, Closes}
+use Rattle.session.specs.Steps.{Opens, First, Stepped}
+use Rattle.session.specs.Turns.{Showing, Turned, Called, Refused}
 
 module _ {V : Type 0} (k : Kind V) (laws : Laws (joins k)) where
   -- one past leads on to t, and balances

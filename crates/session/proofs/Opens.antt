@@ -1,7 +1,7 @@
 -- A month on memories of the right lengths opens.
-use Rattle.std.proofs.Common.{◌≡◌, ℕ, ◌*◌, Bool, true, eqb, List, [], ◌∷◌, IfOk, Some, None, Ok, Err, Option, Result, sym, refl, ap, ◌∙◌, eq-eqb, MatchResult}
+use Rattle.std.proofs.Common.{◌≡◌, ℕ, ◌*◌, List, IfOk, None, Ok, Err, Result, refl, ◌∙◌, eq-eqb, MatchResult}
 use Rattle.scale.specs.declared.fault.Fault.{Fault}
-use Rattle.scale.specs.Refusals.{Refusal, refusal_of, unless, first_of}
+use Rattle.scale.specs.Refusals.{first_of}
 use Rattle.entry.specs.declared.joining.Joining as joining
 use Rattle.entry.specs.Kinds.{Kind}
 use Rattle.book.specs.Sizing.{Holds, size_checks}
@@ -14,7 +14,7 @@ use Rattle.session.specs.declared.stage.Stage.{Stage}
 use Rattle.session.specs.declared.stage.Stage.TheVariants.{Open}
 use Rattle.session.specs.Held.{held_at, state_on}
 use Rattle.session.specs.Opening.{Fresh}
-use Rattle.ledger.specs.Checks.{length_check, open_refusal}
+use Rattle.ledger.specs.Checks.{open_refusal}
 use Rattle.month.proofs.Checked.{first_none}
 
 pub opens : (a h p w x y z : ℕ) → first_of (size_checks a h p) ≡ None → w ≡ p → x ≡ p * h → y ≡ a → z ≡ a * 4 * h → open_refusal a h p w x y z ≡ None

@@ -1,8 +1,8 @@
 -- A position that a month's board answered, as the session's month has it.
-use Rattle.std.proofs.Common.{◌≡◌, ℕ, List, map, length, get_or, IfOk, Ok, Err, Option, Result, sym, refl, ap, ◌∙◌}
+use Rattle.std.proofs.Common.{◌≡◌, ℕ, List, length, get_or, IfOk, Ok, Err, Result, sym, refl, ap, ◌∙◌}
 use Rattle.std.proofs.lemmas.List.{length-map}
 use Rattle.scale.specs.declared.fault.Fault.{Fault}
-use Rattle.scale.specs.Refusals.{Refusal, refusal_of}
+use Rattle.scale.specs.Refusals.{refusal_of}
 use Rattle.entry.specs.declared.joining.Joining as joining
 use Rattle.entry.specs.declared.reversible.Reversible as reversible
 use Rattle.entry.specs.Kinds.{meaning, values}

@@ -1,27 +1,23 @@
 -- From what a call answered to the line that is replied.
-use Rattle.std.proofs.Common.{◌≡◌, ℕ, Bool, true, false, List, length, take, Some, None, Ok, Err, MatchBool, Option, Result, sym, refl, ap, ◌∙◌, subst, arith, MatchResult}
+use Rattle.std.proofs.Common.{◌≡◌, ℕ, Bool, true, false, List, take, Some, None, Ok, Err, Option, sym, refl, ap, ◌∙◌, subst, arith}
 use Rattle.scale.specs.declared.fault.Fault.{Fault}
-use Rattle.scale.specs.Refusals.{Refusal, refusal_of, told}
+use Rattle.scale.specs.Refusals.{Refusal, told}
 use Rattle.entry.specs.declared.joining.Joining as joining
 use Rattle.entry.specs.Kinds.{Kind, values}
-use Rattle.ledger.specs.Checks.{position_refusal, certificate_refusal}
 use Rattle.ledger.specs.States.{State}
 use Rattle.lines.specs.declared.command.Command.{Command}
 use Rattle.lines.specs.declared.command.Command.TheVariants.{Position, Certificate}
 use Rattle.lines.specs.declared.reply.Reply.{Reply}
 use Rattle.lines.specs.Spoken.{spoken_line, refused}
-use Rattle.month.specs.declared.phase.Closed as closing
-use Rattle.month.specs.declared.phase.Month.{Month}
 use Rattle.month.specs.Questions.{certified}
 use Rattle.month.proofs.Turnovers.{certified_told}
-use Rattle.page.specs.Page.{Fronted}
 use Rattle.session.specs.declared.desk.Desk.{Desk}
 use Rattle.session.specs.declared.stage.Stage.{Stage}
 use Rattle.session.specs.declared.stage.Stage.TheVariants.{Idle, Open, Closed}
-use Rattle.session.specs.Closing.{Shut, with_stage}
+use Rattle.session.specs.Closing.{Shut}
 use Rattle.session.specs.Held.{Held, held_at, held_of, state_on}
 use Rattle.session.specs.Questions.{PositionAsked, CertificateAsked}
-use Rattle.session.specs.Turns.{Showing, Doing, Acked, Asked, Closes, Turned, DeskTurned, ack, unfit, Told, Replied}
+use Rattle.session.specs.Turns.{Showing, Doing, Closes, Turned, DeskTurned, ack, unfit, Replied}
 
 nothing : {X : Type 0} {r : Refusal} → ◌≡◌ {A = Option Refusal} None (Some r) → X
 nothing e = absurd (let z : ◌≡◌ {A = ℕ} 0 1 = cc in omega arith)

@@ -1,5 +1,5 @@
 -- A stage from which no open month could be taken.
-use Rattle.std.proofs.Common.{◌≡◌, ℕ, Bool, true, false, List, Some, None, MatchBool, Option, sym, refl, ap, ◌∙◌, arith}
+use Rattle.std.proofs.Common.{◌≡◌, true, List, Some, Option, refl}
 use Rattle.scale.specs.Refusals.{Refusal}
 use Rattle.entry.specs.declared.joining.Joining as joining
 use Rattle.ledger.specs.States.{State}

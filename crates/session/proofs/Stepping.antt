@@ -1,7 +1,6 @@
 -- From what the desk did to what the session did.
-use Rattle.std.proofs.Common.{◌≡◌, ℕ, Bool, true, false, List, Some, None, Option, sym, refl, ap, ◌∙◌, subst, arith}
+use Rattle.std.proofs.Common.{◌≡◌, ℕ, Bool, true, List, Some, None, Option, sym, refl, ap, ◌∙◌, subst, arith}
 use Rattle.scale.specs.Refusals.{Refusal}
-use Rattle.entry.specs.Kinds.{Kind}
 use Rattle.entry.specs.Meanings.{net_kind, by_source_kind}
 use Rattle.entry.specs.Words.{Word, Words}
 use Rattle.lines.specs.declared.command.Command.{Command}
@@ -14,8 +13,8 @@ use Rattle.session.specs.declared.stage.Stage.TheVariants as stage
 use Rattle.session.specs.Closing.{is_idle}
 use Rattle.session.specs.Held.{Held, held_at, held_of}
 use Rattle.session.specs.Seen.{Seen, none, net, by_source, seen_as, seen_by, net_entries, by_source_entries, net_showing, by_source_showing}
-use Rattle.session.specs.Steps.{Opens, OpensFrom, OpensAs, First, Stepped}
-use Rattle.session.specs.Turns.{Showing, DeskTurned, Replied, ack, unfit}
+use Rattle.session.specs.Steps.{Opens, OpensFrom, First, Stepped}
+use Rattle.session.specs.Turns.{DeskTurned, Replied, ack, unfit}
 
 idle_stage : (s : Stage) → is_idle s ≡ true → s ≡ stage.Idle
 idle_stage stage.Idle e = refl

@@ -1,5 +1,5 @@
 -- Opening a month in a session, whose memory is for 4 agents, 24 hours and 16 places.
-use Rattle.std.specs.Prelude.{◌≡◌, ℕ, ◌*◌, Bool, true, false, ◌&&◌, List, [], ◌∷◌, Some, None, Option, nat_le}
+use Rattle.std.specs.Prelude.{◌≡◌, ℕ, ◌*◌, false, ◌&&◌, [], ◌∷◌, Some, None, Option, nat_le}
 use Rattle.scale.specs.Refusals.{Refusal, unless, first_of}
 use Rattle.entry.specs.Kinds.{Kind}
 use Rattle.book.specs.Sizing.{Holds, size_checks}

@@ -1,7 +1,7 @@
 -- What the questions of a session answer.
-use Rattle.std.specs.Prelude.{◌≡◌, ℕ, Bool, true, false, List, length, IfOk, Some, None, MatchBool, Option, Result, MatchResult}
+use Rattle.std.specs.Prelude.{◌≡◌, ℕ, List, length, IfOk, Some, None, MatchBool, Option, Result, MatchResult}
 use Rattle.scale.specs.declared.fault.Fault.{Fault}
-use Rattle.scale.specs.Refusals.{Refusal, refusal_of}
+use Rattle.scale.specs.Refusals.{refusal_of}
 use Rattle.entry.specs.declared.joining.Joining as joining
 use Rattle.entry.specs.Kinds.{Kind}
 use Rattle.ledger.specs.Checks.{position_refusal, certificate_refusal}

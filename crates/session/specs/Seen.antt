@@ -1,5 +1,5 @@
 -- A session as its month: none yet, or one of net entries, or one of entries by source.
-use Rattle.std.specs.Prelude.{◌≡◌, ℕ, true, Some, None, Option, nat_eq}
+use Rattle.std.specs.Prelude.{◌≡◌, true, Some, None, Option, nat_eq}
 use Rattle.entry.specs.declared.joining.Joining as joining
 use Rattle.entry.specs.declared.kinds.BySource.{BySource}
 use Rattle.entry.specs.declared.kinds.Net.{Net}

@@ -1,5 +1,5 @@
 -- What each command does to a month, and which line is replied.
-use Rattle.std.specs.Prelude.{◌≡◌, ℕ, Bool, true, false, List, length, replicate, Some, None, MatchBool, Option}
+use Rattle.std.specs.Prelude.{◌≡◌, ℕ, true, false, List, length, replicate, Some, None, MatchBool, Option}
 use Rattle.scale.specs.Refusals.{Refusal, refusal}
 use Rattle.entry.specs.Kinds.{Kind}
 use Rattle.book.specs.declared.contract.Offer as offer

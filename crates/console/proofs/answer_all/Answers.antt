@@ -1,5 +1,5 @@
 -- Block after block, and then the last line, lead every life on.
-use Rattle.std.proofs.Common.{◌≡◌, sym, subst}
+use Rattle.std.proofs.Common.{sym, subst}
 use Rattle.session.specs.declared.Session.{Session}
 use Rattle.session.specs.Lives.{LivesThrough}
 use Rattle.session.specs.Seen.{seen}

@@ -1,5 +1,5 @@
 -- A byte that ends a line leads every life on by that line's call or none; any other leaves the session as it was.
-use Rattle.std.proofs.Common.{◌≡◌, sym, subst}
+use Rattle.std.proofs.Common.{sym, subst}
 use Rattle.session.specs.declared.Session.{Session}
 use Rattle.session.specs.Lives.{LivesThrough}
 use Rattle.session.specs.Seen.{seen}

@@ -1,4 +1,4 @@
-use Rattle.std.proofs.Common.{take, sym, refl, ◌∙◌}
+use Rattle.std.proofs.Common.{take, refl}
 use Rattle.session.specs.Held.{state_on}
 use Rattle.session.proofs.Positions.{asked}
 use Rattle.session.proofs.desk.Desk.position.Goals as goal
