@@ -48,6 +48,6 @@ fn a_contract_is_confirmed_cut_and_certified(rt: HostRuntime) -> Result<(), Fail
     assert_eq!(rt; (sold, bought), (3, -2));
     assert_eq!(rt; rows, [2, 3, 2, 3, 0, 0, 0, 0]);
     assert_eq!(rt; count?, 24);
-    assert_eq!(rt; &page[0..24], b"agent 2 sold 0 bought 5\n");
+    assert_eq!(rt; &page[0..24], b"agent 2 sold 0 bought 5\n".as_slice());
     Ok(())
 }
