@@ -1,6 +1,6 @@
 // The class scale: the amounts that a cut of one seller's class is shared over.
 ghost use Rattle.std.specs.Prelude.{◌≡◌, map};
-ghost use Rattle.book.specs.Cuts.{claim_of, class_weights, counts, weight as weightOf};
+ghost use Rattle.book.specs.Cuts.{claim_of, class_weights, counts, weight as weight_of};
 ghost use Rattle.book.specs.Terms.{class_number};
 
 use crate::contract::{Class, Contract};
@@ -38,7 +38,7 @@ impl Contract {
 
     // What the contract weighs for a seller, in a class.
     pub fn amount_in(&self, seller: u16, class: Class) -> u32
-        ensures { result ≡ weightOf seller (class_number class) (claim_of self.now) }
+        ensures { result ≡ weight_of seller (class_number class) (claim_of self.now) }
     {
         if self.sells_in(seller, class) {
             self.terms.amount

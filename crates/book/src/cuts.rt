@@ -2,7 +2,7 @@
 ghost use Rattle.std.specs.Prelude.{◌≡◌, ℕ, ◌^◌, ◌<◌, ◌≤◌, map, length, replicate, MatchResult, slice_index, slice_index_or};
 ghost use Rattle.scale.specs.Refusals.{refusal_of};
 ghost use Rattle.scale.specs.Shares.{down_to, shares_of};
-ghost use Rattle.book.specs.Cuts.{claim_of, class_sum, class_weights, cut_in, left, left_by, recut as cutAnew, recut_check};
+ghost use Rattle.book.specs.Cuts.{claim_of, class_sum, class_weights, cut_in, left, left_by, recut as cut_anew, recut_check};
 ghost use Rattle.book.specs.Limits.{most_places, most_total};
 ghost use Rattle.book.specs.Terms.{class_number};
 
@@ -76,7 +76,7 @@ fn cut_class(taken: &mut [Contract], seller: u16, class: Class, cut: u32)
 // the lesser of what remains of the shortfall and its amounts; the last is never cut. A refusal leaves all as it was.
 pub fn recut(taken: &mut [Contract], seller: u16, shortfall: u64) -> Result<(), Fault>
     ensures refused { refusal_of result ≡ recut_check seller taken.old }
-    ensures memory { MatchResult result (λ _. taken.new ≡ cutAnew down_to seller shortfall taken.old) (λ _. taken.new ≡ taken.old) }
+    ensures memory { MatchResult result (λ _. taken.new ≡ cut_anew down_to seller shortfall taken.old) (λ _. taken.new ≡ taken.old) }
 {
     if taken.len() > MOST_PLACES {
         return Err(Fault {

@@ -1,7 +1,7 @@
 // The life of a contract.
 ghost use Rattle.std.specs.Prelude.{◌≡◌, ◌<◌, IfSome};
 ghost use Rattle.book.specs.States.{allowed, in_force, state_after, state_number};
-ghost use Rattle.book.specs.Terms.{offered as justOffered};
+ghost use Rattle.book.specs.Terms.{offered as just_offered};
 
 use crate::contract::{Contract, Event, State, Terms};
 
@@ -22,7 +22,7 @@ impl State {
 impl Contract {
     // A contract just offered: none of its amount counts yet.
     pub fn offered(terms: Terms) -> Contract
-        ensures { result ≡ justOffered terms }
+        ensures { result ≡ just_offered terms }
     {
         Contract {
             terms,

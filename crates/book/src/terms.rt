@@ -1,6 +1,6 @@
 // Terms and offers: the limits of their fields.
 ghost use Rattle.std.specs.Prelude.{◌≡◌, ◌≤◌, IfOk, OnOk};
-ghost use Rattle.book.specs.Terms.{Acceptable, class_number, fields as asNumbers, offer_checks, source_number};
+ghost use Rattle.book.specs.Terms.{Acceptable, class_number, fields as as_numbers, offer_checks, source_number};
 ghost use Rattle.scale.specs.Refusals.{first_of, number_of, refusal_of, unless};
 
 use crate::contract::{Class, MOST_AMOUNT, MOST_NUMBER, Offer, Terms};
@@ -12,7 +12,7 @@ use scale::fault::{Fault, Reason};
 impl Terms {
     // The terms as plain numbers.
     pub fn fields(&self) -> Offer
-        ensures { result ≡ asNumbers self.now }
+        ensures { result ≡ as_numbers self.now }
     {
         let class = match self.class {
             Class::Free => 1,
@@ -68,7 +68,7 @@ impl Offer {
     // The terms of an offer, or the refusal of its first check that fails.
     pub fn terms(&self, sizes: &Sizes) -> Result<Terms, Fault>
         ensures refused { refusal_of result ≡ first_of (offer_checks sizes.now self.now) }
-        ensures holds { IfOk result (λ t. asNumbers t ≡ self.now) }
+        ensures holds { IfOk result (λ t. as_numbers t ≡ self.now) }
         ensures accepts { OnOk result (Acceptable sizes.now self.now) }
     {
         self.check(sizes)?;

@@ -1,7 +1,7 @@
 // An agent's turnover: what its contracts in force come to, sold and bought.
 ghost use Rattle.std.specs.Prelude.{◌≡◌, ℕ, ◌<◌, ◌≤◌, length, slice_index_or};
 ghost use Rattle.book.specs.Terms.{blank};
-ghost use Rattle.month.specs.Questions.{sold_in, bought_in, sold as soldOf, bought as boughtOf};
+ghost use Rattle.month.specs.Questions.{sold_in, bought_in, sold as sold_of, bought as bought_of};
 
 use book::contract::Contract;
 use entry::kinds::Turnover;
@@ -32,8 +32,8 @@ fn turnover_in(contract: &Contract, agent: u16) -> Turnover
 pub(crate) fn turnover_over(taken: &[Contract], agent: u16) -> Turnover
     requires few { length taken.now ≤ 256 }
     requires moderate { (i : ℕ) → i < length taken.now → (slice_index_or taken.now i blank).effective ≤ 1000000000 }
-    ensures sold { result.sold ≡ soldOf agent taken.now }
-    ensures bought { result.bought ≡ boughtOf agent taken.now }
+    ensures sold { result.sold ≡ sold_of agent taken.now }
+    ensures bought { result.bought ≡ bought_of agent taken.now }
     ensures most { (result.sold ≤ 256000000000) × (result.bought ≤ 256000000000) }
 {
     let mut parts = [Turnover { sold: 0, bought: 0 }; 256];

@@ -2,7 +2,7 @@
 ghost use Rattle.std.specs.Prelude.{◌≡◌, IfOk};
 ghost use Rattle.scale.specs.Refusals.{refusal_of};
 ghost use Rattle.entry.specs.Kinds.{meaning};
-ghost use Rattle.ledger.specs.Calls.{ended as asEnded, Ending};
+ghost use Rattle.ledger.specs.Calls.{ended as as_ended, Ending};
 ghost use Rattle.ledger.specs.Checks.{end_refusal};
 ghost use Rattle.ledger.specs.Lives.{LeadsOn};
 ghost use Rattle.ledger.specs.Past.{ending};
@@ -30,7 +30,7 @@ impl Month<Open> {
         agent: u16,
     ) -> Result<(usize, Contract), Fault>
         ensures refused { refusal_of result ≡ end_refusal (state_of E.Joining self.now places.now rows.now shortfalls.now board.now) number agent }
-        ensures chosen { IfOk result (λ p. Chosen (state_of E.Joining self.now places.now rows.now shortfalls.now board.now) number asEnded p.0 p.1) }
+        ensures chosen { IfOk result (λ p. Chosen (state_of E.Joining self.now places.now rows.now shortfalls.now board.now) number as_ended p.0 p.1) }
     {
         self.admit(places, rows, shortfalls, board)?;
         let Some(place) = find(&places[0..self.taken as usize], number) else {
