@@ -1,30 +1,42 @@
--- A board of values, one write at a time. Assumes nothing.
-use Rattle.std.proofs.Common.{◌≡◌, ℕ, ◌+◌, ◌*◌, ◌/◌, ◌%◌, ◌<◌, ◌≤◌, eqb, ◌≢◌, List, length, get_or, set, sym, ap, ◌∙◌, subst, inl, inr, arith}
-use lib.Arith.{digits_div, digits_mod, digits_lt}
-use Rattle.std.proofs.lemmas.List.{get_or-set_same, get_or-set_other, length-set, get_or-map}
-use Rattle.std.proofs.lemmas.Bool.{cases_eq, eq-eqb, ne_eqb, cond-true, cond-false}
+-- A board of values, one lane written after the other. Assumes nothing.
+use Rattle.std.proofs.Common.{◌≡◌, ℕ, ◌+◌, ◌-◌, ◌*◌, ◌<◌, ◌≤◌, eqb, ◌≢◌, List, ◌++◌, map, length, get_or, take, drop, sym, ap, ◌∙◌, subst, inl, inr, mul-le-mul_right, add-mul, one-mul, arith}
+use borrow.Rule.Slice.PartMut.{put_mid, post_of, same_len_mid}
+use Rattle.std.proofs.lemmas.List.{get_or_append_left, get_or-append_right, get_or-take, get_or-drop, length-take-le, length-drop, take-map, drop-map, map-append, length-map}
+use Rattle.std.proofs.lemmas.Bool.{cases_eq, cases_lt, eq-eqb, ne_eqb, cond-true, cond-false}
 use Rattle.entry.specs.declared.source.Source.{Source}
-use Rattle.entry.specs.Kinds.{Kind, Laws, joins, meaning, values}
+use Rattle.entry.specs.Kinds.{Kind, Laws, Cancels, joins}
 use Rattle.board.specs.Moves.{cell, share, Moved}
-use Rattle.entry.specs.declared.joining.Joining as joining
-use Rattle.entry.specs.declared.reversible.Reversible as reversible
 
--- two places are one only at one lane and one hour
-pub same_lane : (l m h t u : ℕ) → t < h → u < h → l * h + t ≡ m * h + u → l ≡ m
-same_lane l m h t u p q e = sym (digits_div l p) ∙ ap (λ x. x / h) e ∙ digits_div m q
+-- a lane lies within the board
+lane_within : (l h n : ℕ) → (l + 1) * h ≤ n → l * h + h ≤ n
+lane_within l h n le = omega (arith, add-mul l 1 h, one-mul h)
 
-pub same_hour : (l m h t u : ℕ) → t < h → u < h → l * h + t ≡ m * h + u → t ≡ u
-same_hour l m h t u p q e = sym (digits_mod l p) ∙ ap (λ x. x % h) e ∙ digits_mod m q
+-- what a board has at an hour of a lane, once the lane `m` was written
+module _ {V : Type 0} (k : Kind V) (m h : ℕ) (old new : List V) (n : ℕ) (is : n ≡ h) (within : m * h + h ≤ length old) (long : length new ≡ h) where
+  abbrev written : List V
+  written = put_mid (m * h) n old new
 
-module _ {V : Type 0} (k : Kind V) (h : ℕ) where
-  pub cell_same : (vs : List V) (m u : ℕ) (x : V) → m * h + u < length vs → cell k h (set vs (m * h + u) x) m u ≡ x
-  cell_same vs m u x p = get_or-set_same vs (m * h + u) x k.nothing p
+  start : length (take (m * h) old) ≡ m * h
+  start = length-take-le (m * h) old (omega arith)
 
-  pub cell_lane : (vs : List V) (m u l t : ℕ) (x : V) → u < h → t < h → l ≢ m → cell k h (set vs (m * h + u) x) l t ≡ cell k h vs l t
-  cell_lane vs m u l t x p q ne = get_or-set_other vs (m * h + u) (l * h + t) x k.nothing (λ e. ne (same_lane l m h t u q p e))
+  cell_in : (t : ℕ) → t < h → cell k h written m t ≡ get_or new t k.nothing
+  cell_in t p =
+      get_or-append_right (take (m * h) old) (new ++ post_of (m * h) n old) (m * h) (m * h + t) k.nothing start (omega arith)
+      ∙ ap (λ i. get_or (new ++ post_of (m * h) n old) i k.nothing) (let e : m * h + t - m * h ≡ t = omega arith in e)
+      ∙ get_or_append_left new (post_of (m * h) n old) k.nothing t (omega arith)
 
-  pub cell_hour : (vs : List V) (m u l t : ℕ) (x : V) → u < h → t < h → t ≢ u → cell k h (set vs (m * h + u) x) l t ≡ cell k h vs l t
-  cell_hour vs m u l t x p q ne = get_or-set_other vs (m * h + u) (l * h + t) x k.nothing (λ e. ne (same_hour l m h t u q p e))
+  cell_out : (l t : ℕ) → l ≢ m → t < h → cell k h written l t ≡ cell k h old l t
+  cell_out l t ne p = elim (cases_lt l m) [
+    | inl lt ↦ let before : l * h + t < m * h = omega (arith, mul-le-mul_right h (let up : l + 1 ≤ m = omega arith in up), add-mul l 1 h, one-mul h) in
+        get_or_append_left (take (m * h) old) (new ++ post_of (m * h) n old) k.nothing (l * h + t) (omega (arith, start))
+        ∙ get_or-take (m * h) old (l * h + t) k.nothing before
+    | inr ge ↦ let after : m * h + h ≤ l * h + t = omega (arith, mul-le-mul_right h (let up : m + 1 ≤ l = omega arith in up), add-mul m 1 h, one-mul h) in
+        get_or-append_right (take (m * h) old) (new ++ post_of (m * h) n old) (m * h) (l * h + t) k.nothing start (omega arith)
+        ∙ get_or-append_right new (post_of (m * h) n old) h (l * h + t - m * h) k.nothing long (omega arith)
+        ∙ get_or-drop n (drop (m * h) old) (l * h + t - m * h - h) k.nothing
+        ∙ get_or-drop (m * h) old (n + (l * h + t - m * h - h)) k.nothing
+        ∙ ap (λ i. get_or old i k.nothing) (let e : m * h + (n + (l * h + t - m * h - h)) ≡ l * h + t = omega arith in e)
+  ]
 
 module _ {V : Type 0} (k : Kind V) (from to : ℕ) (s : Source) (q : ℕ) where
   pub share_from : (l : ℕ) → l ≡ from → share k from to s q l ≡ k.sold q s
@@ -36,71 +48,94 @@ module _ {V : Type 0} (k : Kind V) (from to : ℕ) (s : Source) (q : ℕ) where
   pub share_none : (l : ℕ) → l ≢ from → l ≢ to → share k from to s q l ≡ k.nothing
   share_none l nf nt = cond-false (eqb l from) _ _ (ne_eqb l from nf) ∙ cond-false (eqb l to) _ _ (ne_eqb l to nt)
 
--- one hour more
-module _ {V : Type 0} (k : Kind V) (laws : Laws (joins k)) (from to : ℕ) (s : Source) (hs : ℕ) (q : ℕ → ℕ) (old new : List V) (h : ℕ) (a b : V)
-    (apart : from ≢ to) (in_row : h < hs)
-    (leaves : from * hs + h < length new) (enters : to * hs + h < length new)
-    (first : a ≡ k.join (cell k hs new from h) (k.sold (q h) s))
-    (second : b ≡ k.join (cell k hs new to h) (k.bought (q h) s))
-    (cancel : k.join (k.sold (q h) s) (k.bought (q h) s) ≡ k.nothing)
-    (before : Moved k hs from to s q h old new) where
+-- the values of a board of which a part was written
+values_put : {X V : Type 0} (f : X → V) (a n : ℕ) (xs ys : List X) → map f (put_mid a n xs ys) ≡ put_mid a n (map f xs) (map f ys)
+values_put f a n xs ys =
+    map-append f (take a xs) (ys ++ post_of a n xs)
+    ∙ ap (λ zs. zs ++ map f (ys ++ post_of a n xs)) (sym (take-map f a xs))
+    ∙ ap (λ zs. take a (map f xs) ++ zs) (map-append f ys (post_of a n xs)
+    ∙ ap (λ zs. map f ys ++ zs) (sym (drop-map f n (drop a xs)) ∙ ap (drop n) (sym (drop-map f a xs))))
+
+-- an hour of a lane that was cut out
+cell_cut : {X V : Type 0} (k : Kind V) (f : X → V) (h l n t : ℕ) (xs : List X) → t < n
+    → get_or (map f (take n (drop (l * h) xs))) t k.nothing ≡ cell k h (map f xs) l t
+cell_cut k f h l n t xs p =
+    ap (λ vs. get_or vs t k.nothing) (sym (take-map f n (drop (l * h) xs)) ∙ ap (take n) (sym (drop-map f (l * h) xs)))
+    ∙ get_or-take n (drop (l * h) (map f xs)) t k.nothing p ∙ get_or-drop (l * h) (map f xs) t k.nothing
+
+-- what was sold was joined to one lane, and then what was bought to another
+module _ {V : Type 0} (k : Kind V) (laws : Laws (joins k)) (from to : ℕ) (s : Source) (h : ℕ) (q : ℕ → ℕ) (old sells buys : List V) (n n' : ℕ)
+    (apart : from ≢ to) (is : n ≡ h) (is' : n' ≡ h) (leaves : (from + 1) * h ≤ length old) (enters : (to + 1) * h ≤ length old)
+    (long : length sells ≡ h) (long' : length buys ≡ h) where
   abbrev mid : List V
-  mid = set new (from * hs + h) a
+  mid = put_mid (from * h) n old sells
 
-  abbrev after : List V
-  after = set mid (to * hs + h) b
+  abbrev both : List V
+  both = put_mid (to * h) n' mid buys
 
-  pub moved_more : Moved k hs from to s q (h + 1) old after
-  moved_more = record {
-    long = length-set mid _ b ∙ length-set new _ a ∙ before.long;
-    cells = λ l t p. elim (cases_eq t h) [
-      | inl e ↦ at_hour l t e
-      | inr ne ↦ let t<h : t < h = omega arith in let t<r : t < hs = omega arith in
-          cell_hour k hs mid to h l t b in_row t<r ne ∙ cell_hour k hs new from h l t a in_row t<r ne ∙ before.cells l t t<h
-    ];
-    rest = λ l t p q. let ne : t ≢ h = omega arith in let le : h ≤ t = omega arith in
-        cell_hour k hs mid to h l t b in_row q ne ∙ cell_hour k hs new from h l t a in_row q ne ∙ before.rest l t le q;
-    cancels = λ t p. elim (cases_eq t h) [
-      | inl e ↦ rw e cancel
-      | inr ne ↦ before.cancels t (omega arith)
-    ];
+  long_mid : length mid ≡ length old
+  long_mid = same_len_mid (from * h) n old sells (omega (arith, length-take-le n (drop (from * h) old) (omega (arith, length-drop (from * h) old, lane_within from h (length old) leaves))))
+
+  to_within : to * h + h ≤ length mid
+  to_within = omega (arith, long_mid, lane_within to h (length old) enters)
+
+  long_both : length both ≡ length mid
+  long_both = same_len_mid (to * h) n' mid buys (omega (arith, length-take-le n' (drop (to * h) mid) (omega (arith, length-drop (to * h) mid, to_within))))
+
+  lanes_joined : ((t : ℕ) → t < h → get_or sells t k.nothing ≡ k.join (cell k h old from t) (k.sold (q t) s))
+      → ((t : ℕ) → t < h → get_or buys t k.nothing ≡ k.join (cell k h mid to t) (k.bought (q t) s))
+      → ((t : ℕ) → t < h → Cancels k (q t) s) → Moved k h from to s q h old both
+  lanes_joined sold bought cancels = record {
+    long = long_both ∙ long_mid;
+    cells = at;
+    rest = λ l t p p'. absurd (omega arith);
+    cancels = cancels;
   }
     where
-      was : (l : ℕ) → cell k hs new l h ≡ cell k hs old l h
-      was l = before.rest l h (omega arith) in_row
+      at_from : (t : ℕ) → t < h → cell k h mid from t ≡ k.join (cell k h old from t) (k.sold (q t) s)
+      at_from t p = cell_in k from h old sells n is (lane_within from h (length old) leaves) long t p ∙ sold t p
 
-      at_h : (l : ℕ) → cell k hs after l h ≡ k.join (cell k hs old l h) (share k from to s (q h) l)
-      at_h l = elim (cases_eq l from) [
-        | inl e ↦ let nt : l ≢ to = λ x. apart (sym e ∙ x) in
-            cell_lane k hs mid to h l h b in_row in_row nt
-            ∙ ap (λ x. cell k hs mid x h) e
-            ∙ cell_same k hs new from h a leaves ∙ first
-            ∙ ap (λ x. k.join x (k.sold (q h) s)) (was from ∙ ap (λ x. cell k hs old x h) (sym e))
-            ∙ ap (k.join (cell k hs old l h)) (sym (share_from k from to s (q h) l e))
+      kept : (l t : ℕ) → l ≢ from → t < h → cell k h mid l t ≡ cell k h old l t
+      kept l t ne p = cell_out k from h old sells n is (lane_within from h (length old) leaves) long l t ne p
+
+      at_to : (t : ℕ) → t < h → cell k h both to t ≡ k.join (cell k h mid to t) (k.bought (q t) s)
+      at_to t p = cell_in k to h mid buys n' is' to_within long' t p ∙ bought t p
+
+      kept_after : (l t : ℕ) → l ≢ to → t < h → cell k h both l t ≡ cell k h mid l t
+      kept_after l t ne p = cell_out k to h mid buys n' is' to_within long' l t ne p
+
+      at : (l t : ℕ) → t < h → cell k h both l t ≡ k.join (cell k h old l t) (share k from to s (q t) l)
+      at l t p = elim (cases_eq l from) [
+        | inl e ↦ kept_after l t (λ x. apart (sym e ∙ x)) p ∙ ap (λ x. cell k h mid x t) e ∙ at_from t p
+            ∙ ap (λ x. k.join (cell k h old x t) (k.sold (q t) s)) (sym e)
+            ∙ ap (k.join (cell k h old l t)) (sym (share_from k from to s (q t) l e))
         | inr nf ↦ elim (cases_eq l to) [
-          | inl e ↦
-              ap (λ x. cell k hs after x h) e
-              ∙ cell_same k hs mid to h b (rw length-set enters) ∙ second
-              ∙ ap (λ x. k.join x (k.bought (q h) s)) (was to ∙ ap (λ x. cell k hs old x h) (sym e))
-              ∙ ap (k.join (cell k hs old l h)) (sym (share_to k from to s (q h) l nf e))
-          | inr nt ↦
-              cell_lane k hs mid to h l h b in_row in_row nt ∙ cell_lane k hs new from h l h a in_row in_row nf ∙ was l
-              ∙ sym (laws.unit _) ∙ ap (k.join (cell k hs old l h)) (sym (share_none k from to s (q h) l nf nt))
+          | inl e ↦ ap (λ x. cell k h both x t) e ∙ at_to t p
+              ∙ ap (λ x. k.join (cell k h mid x t) (k.bought (q t) s)) (sym e)
+              ∙ ap (λ x. k.join x (k.bought (q t) s)) (kept l t nf p)
+              ∙ ap (k.join (cell k h old l t)) (sym (share_to k from to s (q t) l nf e))
+          | inr nt ↦ kept_after l t nt p ∙ kept l t nf p
+              ∙ sym (laws.unit (cell k h old l t)) ∙ ap (k.join (cell k h old l t)) (sym (share_none k from to s (q t) l nf nt))
         ]
       ]
 
-      at_hour : (l t : ℕ) → t ≡ h → cell k hs after l t ≡ k.join (cell k hs old l t) (share k from to s (q t) l)
-      at_hour l t e = rw e (at_h l)
+-- and the same of a board of entries
+module _ {X V : Type 0} (k : Kind V) (laws : Laws (joins k)) (f : X → V) (from to : ℕ) (s : Source) (h : ℕ) (q : ℕ → ℕ) (old sells buys : List X) (n n' : ℕ)
+    (apart : from ≢ to) (is : n ≡ h) (is' : n' ≡ h) (leaves : (from + 1) * h ≤ length old) (enters : (to + 1) * h ≤ length old)
+    (long : length sells ≡ h) (long' : length buys ≡ h) where
+  abbrev between : List X
+  between = put_mid (from * h) n old sells
 
-pub within : (m h u n : ℕ) → u < h → (m + 1) * h ≤ n → m * h + u < n
-within m h u n p q = let less : m * h + u < (m + 1) * h = digits_lt (omega arith) p in omega arith
-
--- what a read of an entry means
-pub read_cell : {E : Type 0} (j : joining.Ghosts E) (r : reversible.Ghosts E) (h : ℕ) (es : List E) (l t : ℕ) (x : E)
-    → l * h + t < length es → x ≡ get_or es (l * h + t) x → j.value x ≡ cell (meaning j r) h (values j es) l t
-read_cell j r h es l t x p e = ap j.value e ∙ sym (get_or-map j.value es (l * h + t) x j.nothing p)
-
--- the same move, its lanes named otherwise
-pub moved_lanes : {V : Type 0} (k : Kind V) (h from from' to to' : ℕ) (s : Source) (q : ℕ → ℕ) (old new : List V)
-    → from ≡ from' → to ≡ to' → Moved k h from to s q h old new → Moved k h from' to' s q h old new
-moved_lanes k h from from' to to' s q old new e e' m = subst (λ x. Moved k h x to' s q h old new) e (subst (λ x. Moved k h from x s q h old new) e' m)
+  pub moved_both : ((t : ℕ) → t < h → get_or (map f sells) t k.nothing ≡ k.join (get_or (map f (take n (drop (from * h) old))) t k.nothing) (k.sold (q t) s))
+      → ((t : ℕ) → t < h → get_or (map f buys) t k.nothing ≡ k.join (get_or (map f (take n' (drop (to * h) between))) t k.nothing) (k.bought (q t) s))
+      → ((t : ℕ) → t < h → Cancels k (q t) s) → Moved k h from to s q h (map f old) (map f (put_mid (to * h) n' between buys))
+  moved_both sold bought cancels =
+      subst (Moved k h from to s q h (map f old)) (sym (values_put f (to * h) n' between buys ∙ ap (λ vs. put_mid (to * h) n' vs (map f buys)) mid_is))
+      (lanes_joined k laws from to s h q (map f old) (map f sells) (map f buys) n n' apart is is'
+      (rw length-map leaves) (rw length-map enters) (rw length-map long) (rw length-map long')
+      (λ t p. sold t p ∙ ap (λ x. k.join x (k.sold (q t) s)) (cell_cut k f h from n t old (omega arith)))
+      (λ t p. bought t p ∙ ap (λ x. k.join x (k.bought (q t) s)) (cell_cut k f h to n' t between (omega arith) ∙ ap (λ vs. cell k h vs to t) mid_is))
+      cancels)
+    where
+      mid_is : map f between ≡ put_mid (from * h) n (map f old) (map f sells)
+      mid_is = values_put f (from * h) n old sells

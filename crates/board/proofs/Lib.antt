@@ -1,3 +1,4 @@
 pub mod Cells
+pub mod Joins
 pub mod Lanes
 pub mod Undo

@@ -12,6 +12,10 @@ seller_lane d = lane d.seller d.submarket
 abbrev pub buyer_lane : Deal → ℕ
 buyer_lane d = lane d.buyer d.submarket
 
+-- the deal by which the buyer sells back what it bought
+abbrev pub sold_back : Deal → Deal
+sold_back d = record { seller = d.buyer; buyer = d.seller; submarket = d.submarket; source = d.source }
+
 -- the agents that a board with this many entries has room for: none where there is no hour
 abbrev pub room_for : ℕ → ℕ → ℕ
 room_for entries hours = entries / hours / 4

@@ -1,9 +1,15 @@
 -- What a move of quantities does to a board of values.
 use Rattle.std.specs.Prelude.{◌≡◌, ℕ, ◌+◌, ◌*◌, ◌<◌, ◌≤◌, cond, List, length, ◌==◌, slice_index, slice_index_or}
 use Rattle.entry.specs.declared.source.Source.{Source}
-use Rattle.entry.specs.Kinds.{Kind, Cancels}
+use Rattle.entry.specs.Kinds.{Kind, Cancels, values}
+use Rattle.entry.specs.declared.joining.Joining as joining
 use Rattle.board.specs.declared.deal.Deal.{Deal}
 use Rattle.board.specs.Lanes.{seller_lane, buyer_lane}
+
+-- each entry of a lane was joined with one that is made, as `makes` says, of the quantity of its hour
+abbrev pub EachJoined : {E : Type 0} (j : joining.Ghosts E) → (ℕ → E → Type 0) → List ℕ → List E → List E → Type 0
+EachJoined {E} j makes quantities old new = (hour : ℕ) → hour < length quantities → (entry : E) × makes (slice_index quantities hour) entry
+    × (slice_index_or (values j new) hour j.nothing ≡ j.joined (slice_index_or (values j old) hour j.nothing) (j.value entry))
 
 -- the value at an hour of a lane, on a board with `hours` entries to a lane; hours count from 0
 abbrev pub cell : {V : Type 0} → Kind V → ℕ → List V → ℕ → ℕ → V

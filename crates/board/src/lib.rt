@@ -1,17 +1,31 @@
 // The board: one entry per agent, within it per submarket, within it per hour. Deals are put on it and taken off.
 #![tactic(auto)]
 
-ghost use Rattle.std.specs.Prelude.{◌≡◌, ℕ, ◌+◌, ◌*◌, ◌≤◌, true, false, ◌≢◌, length, slice_index};
+ghost use Rattle.std.specs.Prelude.{◌≡◌, ℕ, ◌+◌, ◌*◌, ◌≤◌, is_ok, ◌≢◌, length, OnErr, OnOk, slice_index};
 ghost use Rattle.entry.specs.Kinds.{meaning, values};
 ghost use Rattle.board.specs.Lanes.{lane as lane_of, room_for, fitting};
-ghost use Rattle.board.specs.Moves.{Moved, Added, TakenOff, Undoes};
+ghost use Rattle.board.specs.Moves.{EachJoined, Moved, Added, TakenOff, Undoes};
 
 pub mod deal;
+pub mod off_board;
 
 use deal::Deal;
 use entry::joining::Joining;
 use entry::reversible::Reversible;
 use entry::source::Source;
+use off_board::OffBoard;
+
+// Joins to each entry of a lane what the quantity of its hour makes.
+fn join_each<E: Joining, F: Fn(u32) -> E>(lane: &mut [E], quantities: &[u32], make: F)
+    requires callable { F.IsAlwaysCallable make }
+    requires long { length lane.old ≡ length quantities.now }
+    ensures { EachJoined E.Joining (F.post make) quantities.now lane.old lane.new }
+{
+    // By the hour, since a proof learns nothing of what a loop over `iter_mut().zip(quantities)` wrote.
+    for (hour, entry) in lane.iter_mut().enumerate() {
+        *entry = entry.join(make(quantities[hour]));
+    }
+}
 
 // Joins each hour's entry to the lane `from`, and its opposite to the lane `to`.
 fn transfer<E: Reversible>(
@@ -27,13 +41,14 @@ fn transfer<E: Reversible>(
     ensures { Moved (meaning E.Joining E.Reversible.own) (length quantities.now) from to source (λ t. slice_index quantities.now t) (length quantities.now) (values E.Joining board.old) (values E.Joining board.new) }
 {
     let hours = quantities.len();
-    for (hour, quantity) in quantities.iter().enumerate() {
-        let sold = E::of_quantity(*quantity, source);
-        let seller = from * hours + hour;
-        board[seller] = board[seller].join(sold);
-        let buyer = to * hours + hour;
-        board[buyer] = board[buyer].join(sold.opposite());
-    }
+    let sells = from * hours;
+    join_each(&mut board[sells..sells + hours], quantities, |quantity| {
+        E::of_quantity(quantity, source)
+    });
+    let buys = to * hours;
+    join_each(&mut board[buys..buys + hours], quantities, |quantity| {
+        E::of_quantity(quantity, source).opposite()
+    });
 }
 
 // The lane of an agent at a submarket.
@@ -55,52 +70,47 @@ fn room_for(length: usize, hours: usize) -> usize
 fn is_fitting(deal: &Deal, agents: usize) -> bool
     ensures { result ≡ fitting agents deal.now }
 {
-    deal.seller >= 1
-        && deal.seller as usize <= agents
-        && deal.buyer >= 1
-        && deal.buyer as usize <= agents
+    (1..=agents).contains(&(deal.seller as usize))
+        && (1..=agents).contains(&(deal.buyer as usize))
         && deal.seller != deal.buyer
-        && deal.submarket >= 1
-        && deal.submarket <= 4
+        && (1..=4).contains(&deal.submarket)
 }
 
-// Puts a deal's quantities, one per hour, on the board; answers whether the deal fits the board, which else stays as it is.
-pub fn add<E: Reversible>(board: &mut [E], deal: &Deal, quantities: &[u32]) -> bool
-    ensures told { result ≡ fitting (room_for (length board.old) (length quantities.now)) deal.now }
-    ensures moved { result ≡ true → Added (meaning E.Joining E.Reversible.own) deal.now quantities.now (values E.Joining board.old) (values E.Joining board.new) }
-    ensures kept { result ≡ false → board.new ≡ board.old }
+// Puts a deal's quantities, one per hour, on the board. A deal that does not fit the board leaves it as it is.
+pub fn add<E: Reversible>(board: &mut [E], deal: &Deal, quantities: &[u32]) -> Result<(), OffBoard>
+    ensures told { is_ok result ≡ fitting (room_for (length board.old) (length quantities.now)) deal.now }
+    ensures moved { OnOk result (Added (meaning E.Joining E.Reversible.own) deal.now quantities.now (values E.Joining board.old) (values E.Joining board.new)) }
+    ensures kept { OnErr result (board.new ≡ board.old) }
 {
     let agents = room_for(board.len(), quantities.len());
     if !is_fitting(deal, agents) {
-        return false;
+        return Err(OffBoard);
     }
     let sells = lane(deal.seller, deal.submarket);
     let buys = lane(deal.buyer, deal.submarket);
     transfer(board, sells, buys, deal.source, quantities);
-    true
+    Ok(())
 }
 
 // Takes a deal's quantities off again, as its buyer selling them back: what `add` put on, it undoes.
-pub fn take_off<E: Reversible>(board: &mut [E], deal: &Deal, quantities: &[u32]) -> bool
-    ensures told { result ≡ fitting (room_for (length board.old) (length quantities.now)) deal.now }
-    ensures moved { result ≡ true → TakenOff (meaning E.Joining E.Reversible.own) deal.now quantities.now (values E.Joining board.old) (values E.Joining board.new) }
-    ensures undoes { result ≡ true → Undoes (meaning E.Joining E.Reversible.own) deal.now quantities.now (values E.Joining board.old) (values E.Joining board.new) }
-    ensures kept { result ≡ false → board.new ≡ board.old }
+pub fn take_off<E: Reversible>(
+    board: &mut [E],
+    deal: &Deal,
+    quantities: &[u32],
+) -> Result<(), OffBoard>
+    ensures told { is_ok result ≡ fitting (room_for (length board.old) (length quantities.now)) deal.now }
+    ensures moved { OnOk result (TakenOff (meaning E.Joining E.Reversible.own) deal.now quantities.now (values E.Joining board.old) (values E.Joining board.new)) }
+    ensures undoes { OnOk result (Undoes (meaning E.Joining E.Reversible.own) deal.now quantities.now (values E.Joining board.old) (values E.Joining board.new)) }
+    ensures kept { OnErr result (board.new ≡ board.old) }
 {
-    let agents = room_for(board.len(), quantities.len());
-    if !is_fitting(deal, agents) {
-        return false;
-    }
-    let sells = lane(deal.seller, deal.submarket);
-    let buys = lane(deal.buyer, deal.submarket);
-    transfer(board, buys, sells, deal.source, quantities);
-    true
+    add(board, &deal.reversed(), quantities)
 }
 
 #[cfg(test)]
 mod tests {
     use super::{add, take_off};
     use crate::deal::Deal;
+    use crate::off_board::OffBoard;
     use entry::joining::Joining;
     use entry::kinds::{BySource, Net};
     use entry::reversible::Reversible;
@@ -115,10 +125,10 @@ mod tests {
             submarket: 3,
             source: Source::Conventional,
         };
-        assert!(rt; add(&mut board, &deal, &[7, 0]));
+        assert_eq!(rt; add(&mut board, &deal, &[7, 0]), Ok(()));
         assert_eq!(rt; board[4].units, 7);
         assert_eq!(rt; board[12].units, -7);
-        assert!(rt; take_off(&mut board, &deal, &[7, 0]));
+        assert_eq!(rt; take_off(&mut board, &deal, &[7, 0]), Ok(()));
         assert_eq!(rt; board[12].units, 0);
     }
 
@@ -134,9 +144,10 @@ mod tests {
             submarket: 4,
             source: Source::Incentivised,
         };
-        assert!(rt; add(&mut board, &deal, &[5]));
+        assert_eq!(rt; add(&mut board, &deal, &[5]), Ok(()));
         assert_eq!(rt; board[7].incentivised, 5);
-        assert!(rt; !add(&mut board, &Deal { buyer: 3, ..deal }, &[5]));
+        let stranger = Deal { buyer: 3, ..deal };
+        assert_eq!(rt; add(&mut board, &stranger, &[5]), Err(OffBoard));
         assert_eq!(rt; board[7].incentivised, 5);
     }
 }

@@ -12,14 +12,6 @@ use Rattle.book.specs.declared.contract.Contract.{Contract}
 use Rattle.book.specs.declared.contract.Offer.{Offer}
 use Rattle.book.specs.declared.sizes.Sizes.{Sizes}
 
-pub moderate_more : (xs : List ℕ) (i : ℕ) → i < length xs → leb (get_or xs i 0) most_total ≡ true → each_moderate (drop i xs) ≡ each_moderate (drop (i + 1) xs)
-moderate_more xs i lt h =
-    at_drop_more each_moderate xs i 0 lt ∙ ap (λ (b : Bool). b && each_moderate (drop (i + 1) xs)) h
-
-pub moderate_not : (xs : List ℕ) (i : ℕ) → i < length xs → leb (get_or xs i 0) most_total ≡ false → each_moderate (drop i xs) ≡ false
-moderate_not xs i lt h =
-    at_drop_more each_moderate xs i 0 lt ∙ ap (λ (b : Bool). b && each_moderate (drop (i + 1) xs)) h
-
 -- a check that holds, and one that does not
 pub passes : (b : Bool) (n s : ℕ) (rest : List (Option Refusal)) → b ≡ true → first_of (unless b n s ∷ rest) ≡ first_of rest
 passes true n s rest e = refl

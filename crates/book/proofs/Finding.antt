@@ -1,29 +1,31 @@
--- The steps of a search for a number.
-use Rattle.std.proofs.Common.{◌≡◌, ℕ, ◌+◌, ◌<◌, ◌≤◌, ◌≢◌, List, length, get_or, drop, Some, sym, ap, ◌∙◌, ⊎_elim, arith}
-use Rattle.std.proofs.lemmas.List.{at_drop_more, get_or_default}
-use Rattle.std.proofs.lemmas.Bool.{cases_lt, cond-true, cond-false, eq-eqb, ne_eqb}
-use Rattle.book.specs.Lookup.{NotBefore, place_from}
+-- The place where a search for a number ends.
+use Rattle.std.proofs.Common.{◌≡◌, ℕ, zero, suc, ◌+◌, ◌-◌, ◌<◌, ◌≢◌, List, [], ◌∷◌, length, get_or, Some, None, Option, MatchOption, sym, refl, ap, ◌∙◌, arith}
+use Rattle.std.proofs.lemmas.Bool.{cond-true, cond-false, eq-eqb, ne_eqb}
+use Rattle.book.specs.Lookup.{Absent, FirstPlace, place_from, place_of}
 use Rattle.book.specs.Terms.{blank}
 use Rattle.book.specs.declared.contract.Contract.{Contract}
 
-pub place_here : (number : ℕ) (taken : List Contract) (i : ℕ) → i < length taken → (get_or taken i blank).terms.number ≡ number
-    → place_from (i + 1) number (drop i taken) ≡ Some (i + 1)
-place_here number taken i lt e = at_drop_more (place_from (i + 1) number) taken i blank lt ∙ cond-true _ _ _ (eq-eqb _ _ e)
+none_from : (place number : ℕ) (taken : List Contract) → Absent number taken → place_from place number taken ≡ None
+none_from place number [] none = refl
+none_from place number (c ∷ cs) none =
+    cond-false _ _ _ (ne_eqb _ _ (none 0 blank (omega arith)))
+    ∙ none_from (place + 1) number cs (λ k d lt. none (suc k) d (omega arith))
 
-pub place_later : (number : ℕ) (taken : List Contract) (i : ℕ) → i < length taken → (get_or taken i blank).terms.number ≢ number
-    → place_from (i + 1) number (drop i taken) ≡ place_from (i + 1 + 1) number (drop (i + 1) taken)
-place_later number taken i lt ne = at_drop_more (place_from (i + 1) number) taken i blank lt ∙ cond-false _ _ _ (ne_eqb _ _ ne)
+some_from : (place number : ℕ) (taken : List Contract) (i : ℕ) → i < length taken
+    → ((d : Contract) → (get_or taken i d).terms.number ≡ number)
+    → ((k : ℕ) (d : Contract) → k < i → k < length taken → (get_or taken k d).terms.number ≢ number)
+    → place_from place number taken ≡ Some (place + i)
+some_from place number [] i lt stands first = absurd (omega arith)
+some_from place number (c ∷ cs) zero lt stands first = cond-true _ _ _ (eq-eqb _ _ (stands blank)) ∙ ap (λ (n : ℕ). Some n) (omega arith)
+some_from place number (c ∷ cs) (suc i) lt stands first =
+    cond-false _ _ _ (ne_eqb _ _ (first 0 blank (omega arith) (omega arith)))
+    ∙ some_from (place + 1) number cs i (omega arith) stands (λ k d below inside. first (suc k) d (omega arith) (omega arith))
+    ∙ ap (λ (n : ℕ). Some n) (omega arith)
 
--- the number that stands at a place, at any default
-pub number_at : (taken : List Contract) (i k : ℕ) (d : Contract) → i < length taken → k ≡ i
-    → (get_or taken i blank).terms.number ≡ (get_or taken k d).terms.number
-number_at taken i k d lt e =
-    ap (λ (c : Contract). c.terms.number) (get_or_default taken i blank d lt ∙ ap (λ (j : ℕ). get_or taken j d) (sym e))
-
-pub not_before_more : (number : ℕ) (taken : List Contract) (i : ℕ) → i < length taken → NotBefore (i + 1) number taken
-    → (get_or taken i blank).terms.number ≢ number → NotBefore (i + 1 + 1) number taken
-not_before_more number taken i lt before ne =
-    λ k d h inside. ⊎_elim
-    (λ (less : k < i). before k d (omega arith) inside)
-    (λ (more : i ≤ k). λ e. ne (number_at taken i k d lt (omega arith) ∙ e))
-    (cases_lt k i)
+-- what is told of the first place tells the place
+pub place_told : (number : ℕ) (taken : List Contract) (r : Option ℕ) → MatchOption r (Absent number taken) (FirstPlace number taken)
+    → r ≡ place_of number taken
+place_told number taken None none = sym (none_from 1 number taken none)
+place_told number taken (Some place) f =
+    ap (λ (n : ℕ). Some n) (omega (arith, f.low))
+    ∙ sym (some_from 1 number taken (place - 1) (omega (arith, f.low, f.high)) f.stands (λ k d below inside. f.first k d (omega (arith, f.low)) inside))

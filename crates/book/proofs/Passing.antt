@@ -1,6 +1,7 @@
 -- What is sound passes every check.
-use Rattle.std.proofs.Common.{◌≡◌, ℕ, zero, suc, ◌+◌, ◌<◌, ◌≤◌, Bool, true, false, not, List, [], ◌∷◌, length, get_or, is_some, Some, None, Option, sym, refl, ap, ◌∙◌, subst, ⊎_elim, arith}
+use Rattle.std.proofs.Common.{◌≡◌, ℕ, zero, suc, ◌+◌, ◌<◌, ◌≤◌, Bool, true, false, not, List, [], ◌∷◌, length, get_or, is_some, Some, None, Option, sym, refl, ap, ◌∙◌, subst, ⊎_elim, arith, IsTrue, ◌↔◌, EachIndex}
 use Rattle.std.proofs.lemmas.Bool.{both_ways, le-leb, eq-eqb, ne_eqb, and_from, not_from_false, or_left, or_right, cases_Bool}
+use Rattle.std.proofs.lemmas.Bool.Decides.{same_from_decides}
 use Rattle.scale.specs.Refusals.{Refusal, unless, first_of}
 use Rattle.book.specs.Limits.{between, most_total}
 use Rattle.book.specs.Sound.{SoundBook, SoundPlace, each_moderate, book_check, place_checks, sound_place}
@@ -9,7 +10,7 @@ use Rattle.book.specs.Terms.{Acceptable, fields, offer_checks}
 use Rattle.book.specs.declared.contract.Contract.{Contract}
 use Rattle.book.specs.declared.contract.Offer.{Offer}
 use Rattle.book.specs.declared.sizes.Sizes.{Sizes}
-use Rattle.book.proofs.Checking.{passes}
+use Rattle.book.proofs.Checking.{moderate_all, passes}
 
 pub passes_on : (b : Bool) (n s : ℕ) (rest : List (Option Refusal)) → b ≡ true → first_of rest ≡ None
     → first_of (unless b n s ∷ rest) ≡ None
@@ -36,6 +37,10 @@ moderate_from : (xs : List ℕ) → ((k : ℕ) → k < length xs → get_or xs k
 moderate_from [] h = refl
 moderate_from (x ∷ xs) h =
     and_from _ _ (le-leb x most_total (h zero (omega arith))) (moderate_from xs (λ k lt. h (suc k) (omega arith)))
+
+-- an answer that tells whether each is moderate
+pub moderate_told : (xs : List ℕ) (r : Bool) → (IsTrue r ↔ EachIndex xs (λ k. get_or xs k 0 ≤ most_total)) → r ≡ each_moderate xs
+moderate_told xs r h = same_from_decides r (each_moderate xs) h (moderate_all xs, moderate_from xs)
 
 pub place_test : (z : Sizes) (taken : List Contract) (rows : List ℕ) (i : ℕ) (c : Contract) → SoundPlace z taken rows i c
     → sound_place z taken rows i c ≡ true

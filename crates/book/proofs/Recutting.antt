@@ -1,18 +1,20 @@
 -- One class cut after another is the cut rule.
-use Rattle.std.proofs.Common.{◌≡◌, ℕ, suc, ◌+◌, ◌-◌, ◌<◌, ◌≤◌, min, Bool, true, false, cond, ◌&&◌, eqb, List, [], ◌∷◌, ◌++◌, map, length, get_or, take, drop, set, replicate, None, Ok, Err, sum, Result, sym, refl, ap, ◌∙◌, subst, inl, inr, add-one, arith, MatchResult}
+use Rattle.std.proofs.Common.{◌≡◌, ℕ, zero, suc, ◌+◌, ◌-◌, ◌<◌, ◌≤◌, min, Bool, true, false, cond, ◌&&◌, eqb, leb, List, [], ◌∷◌, ◌++◌, map, length, get_or, take, drop, set, replicate, None, Ok, Err, sum, Result, sym, refl, ap, ◌∙◌, subst, inl, inr, add-one, arith, MatchResult}
 use Rattle.std.proofs.lemmas.List.{append_assoc, append-nil, drop_all, drop_more, drop-set-lt, get_or_default, get_or-map, get_or-replicate, length-replicate, same_lists, take_all, take_more_set}
-use Rattle.std.proofs.lemmas.Bool.{and_right, cases_eq, cond-false, ne_eqb}
+use Rattle.std.proofs.lemmas.Bool.{and_right, cases_eq, cond-false, leb-true, ne_eqb}
 use Rattle.scale.specs.Refusals.{refusal_of}
 use Rattle.scale.specs.Shares.{Rule, Sound, shares_of}
 use Rattle.scale.specs.declared.fault.Fault.{Fault}
 use Rattle.scale.proofs.Running.{length_shared}
-use Rattle.book.specs.Cuts.{Claim, claim_of, no_claim, class_cut, class_sum, class_weights, counts, cut_in, cut_shares, effective_at, left, left_by, map_from, recut, stands_for, with_effective}
+use Rattle.book.specs.Cuts.{Claim, claim_of, no_claim, class_cut, class_sum, class_weights, counts, cut_in, cut_shares, effective_at, left, left_by, map_from, recut, remaining, stands_for, with_effective}
+use Rattle.book.specs.Limits.{most_total}
+use Rattle.book.specs.Sound.{seller_total}
 use Rattle.book.specs.States.{in_force}
 use Rattle.book.specs.Terms.{class_number}
 use Rattle.book.specs.declared.contract.Class.{Class}
 use Rattle.book.specs.declared.contract.Class.TheVariants.{Free, Retail, Regulated, Plant}
 use Rattle.book.specs.declared.contract.Contract.{Contract}
-use Rattle.book.proofs.Cutting.{effective_of_place, part_in_sum, share_most, share_total, weight_at_lem, weight_most}
+use Rattle.book.proofs.Cutting.{class_cut_lem, class_total_most, effective_of_place, part_in_sum, share_most, share_total, weight_at_lem, weight_most}
 
 -- each element by its index
 
@@ -45,20 +47,6 @@ map_from_done f t all i past inv =
     ∙ ap (λ r. r ++ []) (sym (take_all i t past))
     ∙ ap (λ r. take i t ++ map_from f i r) (sym (drop_all i t past))
     ∙ inv
-
--- the cuts of the three classes, as they are worked out from their totals
-pub cuts_in_turn : (short : ℕ) (total : ℕ → ℕ) (t1 t2 t3 k1 k2 k3 : ℕ) → t1 ≡ total 1 → t2 ≡ total 2 → t3 ≡ total 3
-    → k1 ≡ min short t1 → k2 ≡ min (short - k1) t2 → k3 ≡ min (short - k1 - k2) t3
-    → (k1 ≡ class_cut short total 1) × (k2 ≡ class_cut short total 2) × (k3 ≡ class_cut short total 3)
-cuts_in_turn short total t1 t2 t3 k1 k2 k3 e1 e2 e3 m1 m2 m3 =
-    let c1 : k1 ≡ class_cut short total 1 = m1 ∙ ap (λ (t : ℕ). min short t) e1 in
-    let c2 : k2 ≡ class_cut short total 2 =
-    m2 ∙ ap (λ (t : ℕ). min (short - k1) t) e2 ∙ ap (λ (k : ℕ). min (short - k) (total 2)) c1 in
-    let c3 : k3 ≡ class_cut short total 3 =
-    m3 ∙ ap (λ (t : ℕ). min (short - k1 - k2) t) e3
-    ∙ ap (λ (k : ℕ). min (short - k - k2) (total 3)) c1
-    ∙ ap (λ (k : ℕ). min (short - class_cut short total 1 - k) (total 3)) c2 in
-    (c1, c2, c3)
 
 -- the shares of a cut
 
@@ -164,19 +152,27 @@ module _ (rule : Rule) (seller short : ℕ) (cs : List Contract) where
       ∙ own_seller (in_force c) c.terms.seller seller (λ s. c.terms.amount - share_of s i (class_number c.terms.class)) c
       ∙ ap (λ (e : ℕ). keep (stands_for seller c) e c) (sym (effective_of_place rule short cs i d less))
 
-  one_step : (class cut : ℕ) (before after : List Contract) → map claim_of before ≡ map claim_of cs
-      → cut ≡ class_cut short (class_sum seller (map claim_of cs)) class → after ≡ cut_in rule seller class cut before → after ≡ map_from (step class) 0 before
-  one_step class cut before after same is e =
+  -- the contracts after the classes up to k
+  abbrev pub cut_up_to : ℕ → List Contract
+  cut_up_to zero = cs
+  cut_up_to (suc k) = map_from (step (suc k)) 0 (cut_up_to k)
+
+  -- the claims, and so the class totals, stay
+  pub claims_up_to : (k : ℕ) → map claim_of (cut_up_to k) ≡ map claim_of cs
+  claims_up_to zero = refl
+  claims_up_to (suc k) = claims_kept seller (suc k) (cut_shares rule short seller (map claim_of cs) (suc k)) 0 (cut_up_to k) ∙ claims_up_to k
+
+  cut_next : (k class cut : ℕ) (before after : List Contract) → class ≡ suc k → before ≡ cut_up_to k
+      → cut ≡ class_cut short (class_sum seller (map claim_of cs)) (suc k) → after ≡ cut_in rule seller class cut before → after ≡ cut_up_to (suc k)
+  cut_next k class cut before after at b q e =
       e
-      ∙ ap (λ (q : ℕ). cut_in rule seller class q before) is
-      ∙ ap (λ (m : List Claim). left_by seller class (shares_of rule (class_cut short (class_sum seller (map claim_of cs)) class) (class_weights seller class m)) before) same
+      ∙ ap (λ (n : ℕ). cut_in rule seller n cut before) at
+      ∙ ap (λ (xs : List Contract). cut_in rule seller (suc k) cut xs) b
+      ∙ ap (λ (n : ℕ). cut_in rule seller (suc k) n (cut_up_to k)) q
+      ∙ ap (λ (m : List Claim). left_by seller (suc k) (shares_of rule (class_cut short (class_sum seller (map claim_of cs)) (suc k)) (class_weights seller (suc k) m)) (cut_up_to k)) (claims_up_to k)
 
-  still : (class : ℕ) (before after : List Contract) → map claim_of before ≡ map claim_of cs → after ≡ map_from (step class) 0 before → map claim_of after ≡ map claim_of cs
-  still class before after same e =
-      ap (map claim_of) e ∙ claims_kept seller class (cut_shares rule short seller (map claim_of cs) class) 0 before ∙ same
-
-  together : map_from (step 4) 0 (map_from (step 3) 0 (map_from (step 2) 0 (map_from (step 1) 0 cs))) ≡ recut rule seller short cs
-  together =
+  cut_all : cut_up_to 4 ≡ recut rule seller short cs
+  cut_all =
       ap (λ (r : List Contract). map_from (step 4) 0 (map_from (step 3) 0 r)) (map_from_twice (step 2) (step 1) 0 cs)
       ∙ ap (λ (r : List Contract). map_from (step 4) 0 r) (map_from_twice (step 3) (λ i x. step 2 i (step 1 i x)) 0 cs)
       ∙ map_from_twice (step 4) (λ i x. step 3 i (step 2 i (step 1 i x))) 0 cs
@@ -188,27 +184,29 @@ module _ (rule : Rule) (seller short : ℕ) (cs : List Contract) where
       ≡ cond (stands_for seller (get_or cs n d)) (with_effective (effective_at rule short (map claim_of cs) i) (get_or cs n d)) (get_or cs n d))
       same (place i d (omega arith)))
 
-  pub in_turn_lem : (first second third fourth : List Contract) (k1 k2 k3 : ℕ)
-      → k1 ≡ class_cut short (class_sum seller (map claim_of cs)) 1
-      → k2 ≡ class_cut short (class_sum seller (map claim_of cs)) 2
-      → k3 ≡ class_cut short (class_sum seller (map claim_of cs)) 3
-      → first ≡ cut_in rule seller 1 k1 cs → second ≡ cut_in rule seller 2 k2 first → third ≡ cut_in rule seller 3 k3 second → fourth ≡ cut_in rule seller 4 0 third
-      → fourth ≡ recut rule seller short cs
-  in_turn_lem first second third fourth k1 k2 k3 c1 c2 c3 e1 e2 e3 e4 =
-      let f1 = one_step 1 k1 cs first refl c1 e1 in
-      let s1 = still 1 cs first refl f1 in
-      let f2 = one_step 2 k2 first second s1 c2 e2 in
-      let s2 = still 2 first second s1 f2 in
-      let f3 = one_step 3 k3 second third s2 c3 e3 in
-      let s3 = still 3 second third s2 f3 in
-      let f4 = one_step 4 0 third fourth s3 refl e4 in
-      f4
-      ∙ ap (λ (r : List Contract). map_from (step 4) 0 r) f3
-      ∙ ap (λ (r : List Contract). map_from (step 4) 0 (map_from (step 3) 0 r)) f2
-      ∙ ap (λ (r : List Contract). map_from (step 4) 0 (map_from (step 3) 0 (map_from (step 2) 0 r))) f1
-      ∙ together
+  -- no class sells more than the limit, whatever was cut before
+  pub class_within : (k class : ℕ) (before : List Contract) → before ≡ cut_up_to k → leb (seller_total seller cs + 0) most_total ≡ true
+      → class_sum seller (map claim_of before) class ≤ most_total
+  class_within k class before b room =
+      let same : class_sum seller (map claim_of before) class ≡ class_sum seller (map claim_of cs) class =
+      ap (λ (m : List Claim). class_sum seller m class) (ap (map claim_of) b ∙ claims_up_to k) in
+      omega (arith, class_total_most seller class cs, leb-true (seller_total seller cs + 0) most_total room)
 
--- the claims, and so the class totals, stay
-pub claims_cut : (rule : Rule) (seller class cut : ℕ) (cs after : List Contract) → after ≡ cut_in rule seller class cut cs → map claim_of after ≡ map claim_of cs
-claims_cut rule seller class cut cs after e =
-    ap (map claim_of) e ∙ claims_kept seller class (shares_of rule cut (class_weights seller class (map claim_of cs))) 0 cs
+  -- one class more, and what then remains
+  pub cut_one : (i class cut rest : ℕ) (before after : List Contract) → i < 3 → class ≡ suc i → before ≡ cut_up_to i
+      → rest ≡ remaining short (class_sum seller (map claim_of cs)) i → cut ≡ min rest (class_sum seller (map claim_of before) class)
+      → after ≡ cut_in rule seller class cut before
+      → (after ≡ cut_up_to (i + 1)) × (rest - cut ≡ remaining short (class_sum seller (map claim_of cs)) (i + 1))
+  cut_one i class cut rest before after less at b r m e =
+      let total : ℕ → ℕ = class_sum seller (map claim_of cs) in
+      let here : class_sum seller (map claim_of before) class ≡ total (suc i) =
+      ap (λ (s : List Claim). class_sum seller s class) (ap (map claim_of) b ∙ claims_up_to i) ∙ ap total at in
+      let own : remaining short total (suc i - 1) ≡ remaining short total i = ap (remaining short total) (omega arith) in
+      let next : remaining short total (i + 1) ≡ remaining short total (suc i) = ap (remaining short total) (add-one i) in
+      let due : cut ≡ class_cut short total (suc i) = omega (arith, class_cut_lem short total (suc i) (omega arith)) in
+      (cut_next i class cut before after at b due e ∙ ap cut_up_to (sym (add-one i)), omega arith)
+
+  -- the last class is cut by nothing
+  pub cut_last : (i : ℕ) (before after : List Contract) → i ≡ 3 → before ≡ cut_up_to i → after ≡ cut_in rule seller 4 0 before
+      → after ≡ recut rule seller short cs
+  cut_last i before after at b e = cut_next 3 4 0 before after refl (b ∙ ap cut_up_to at) refl e ∙ cut_all

@@ -1,10 +1,11 @@
 -- The terms of a contract: their numbers, and which offers are refused.
-use Rattle.std.specs.Prelude.{◌≡◌, ℕ, ◌≤◌, not, ◌&&◌, ◌≢◌, List, [], ◌∷◌, Option, ◌==◌, nat_le}
+use Rattle.std.specs.Prelude.{◌≡◌, ℕ, ◌≤◌, false, not, ◌&&◌, ◌≢◌, List, [], ◌∷◌, Option, Result, MatchResult, ◌==◌, nat_le}
 use Rattle.scale.specs.Refusals.{Refusal, unless}
-use Rattle.entry.specs.declared.source.Source.{Source}
-use Rattle.entry.specs.declared.source.Source.TheVariants.{Conventional, Incentivised}
+use Rattle.entry.specs.declared.source.Source.TheVariants.{Conventional}
+pub use Rattle.entry.specs.Sources.{source_number}
 use Rattle.book.specs.Limits.{between, most_number, most_amount}
 use Rattle.book.specs.declared.contract.Class.{Class}
+use Rattle.book.specs.declared.contract.UnknownClass.{UnknownClass}
 use Rattle.book.specs.declared.contract.Class.TheVariants.{Free, Retail, Regulated, Plant}
 use Rattle.book.specs.declared.contract.Contract.{Contract}
 use Rattle.book.specs.declared.contract.Offer.{Offer}
@@ -18,9 +19,9 @@ class_number Retail = 2
 class_number Regulated = 3
 class_number Plant = 4
 
-abbrev pub source_number : Source → ℕ
-source_number Conventional = 0
-source_number Incentivised = 1
+-- the class that has the number, or an error with a number that no class has
+abbrev pub IsClassOf : ℕ → Result Class UnknownClass → Type 0
+IsClassOf number r = MatchResult r (λ class. class_number class ≡ number) (λ e. (e.0 ≡ number) × (between 1 4 number ≡ false))
 
 -- the nine fields as plain numbers
 abbrev pub fields : Terms → Offer

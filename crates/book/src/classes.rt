@@ -33,15 +33,15 @@ impl Contract {
     pub fn sells_in(&self, seller: u16, class: Class) -> bool
         ensures { result ≡ counts seller (class_number class) (claim_of self.now) }
     {
-        self.in_force() && self.terms.seller == seller && self.terms.class == class
+        self.sells(seller) && self.terms.class == class
     }
 
     // What the contract weighs for a seller, in a class.
     pub fn amount_in(&self, seller: u16, class: Class) -> u32
         ensures { result ≡ weight_of seller (class_number class) (claim_of self.now) }
     {
-        if self.sells_in(seller, class) {
-            self.terms.amount
+        if self.terms.class == class {
+            self.amount_sold(seller)
         } else {
             0
         }
@@ -56,10 +56,9 @@ impl Scale for ClassScale<'_> {
     }
 
     fn weight(&self, part: usize) -> u32 {
-        if part >= 1 && part <= self.taken.len() {
-            self.taken[part - 1].amount_in(self.seller, self.class)
-        } else {
-            0
+        match part.checked_sub(1).and_then(|index| self.taken.get(index)) {
+            Some(contract) => contract.amount_in(self.seller, self.class),
+            None => 0,
         }
     }
 }

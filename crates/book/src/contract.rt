@@ -1,4 +1,7 @@
 // The contract record.
+ghost use Rattle.std.specs.Prelude.{◌≡◌};
+ghost use Rattle.book.specs.Terms.{IsClassOf, class_number};
+
 use entry::source::Source;
 
 // A contract's number, unique in its month.
@@ -17,19 +20,47 @@ pub const MOST_TOTAL: u64 = 2_000_000_000;
 pub const MOST_PLACES: usize = 256;
 
 // How a contract is cut when its seller falls short. The classes are cut in this order; the last never is.
-#[derive(Clone, Copy, PartialEq, Eq)]
+#[derive(Clone, Copy, PartialEq, Eq, Debug)]
 pub enum Class {
     // a free-market contract
-    Free,
+    Free = 1,
     // a free-market contract whose buyer is a retail trader
-    Retail,
+    Retail = 2,
     // a regulated contract tied to no plant
-    Regulated,
+    Regulated = 3,
     // a regulated contract tied to a plant
-    Plant,
+    Plant = 4,
 }
 
-#[derive(Clone, Copy, PartialEq, Eq)]
+// A number that no class has.
+#[derive(Clone, Copy, PartialEq, Eq, Debug)]
+pub struct UnknownClass(pub u16);
+
+impl TryFrom<u16> for Class {
+    type Error = UnknownClass;
+
+    ghost try_from_gives = { IsClassOf };
+
+    fn try_from(number: u16) -> Result<Class, UnknownClass> {
+        match number {
+            1 => Ok(Class::Free),
+            2 => Ok(Class::Retail),
+            3 => Ok(Class::Regulated),
+            4 => Ok(Class::Plant),
+            _ => Err(UnknownClass(number)),
+        }
+    }
+}
+
+impl From<Class> for u16 {
+    ghost from_gives = { λ class number. number ≡ class_number class };
+
+    fn from(class: Class) -> u16 {
+        class as u16
+    }
+}
+
+#[derive(Clone, Copy, PartialEq, Eq, Debug)]
 pub enum State {
     Offered,
     InForce,
@@ -37,7 +68,7 @@ pub enum State {
 }
 
 // What seller and buyer agree on, and what never changes after the offer.
-#[derive(Clone, Copy)]
+#[derive(Clone, Copy, PartialEq, Eq, Debug)]
 pub struct Terms {
     pub number: Number,
     pub seller: u16,
@@ -51,7 +82,7 @@ pub struct Terms {
 }
 
 // A contract at its place: its terms, what the cuts leave of its amount, and how far its life has come.
-#[derive(Clone, Copy)]
+#[derive(Clone, Copy, PartialEq, Eq, Debug)]
 pub struct Contract {
     pub terms: Terms,
     pub effective: u32,
@@ -75,8 +106,9 @@ pub const BLANK: Contract = Contract {
     state: State::Offered,
 };
 
-// An offer as it is called: the terms as plain numbers, of which nothing is known yet.
-#[derive(Clone, Copy)]
+// An offer as it is called: the terms as plain numbers, of which nothing is known yet. Class and source stay numbers here too:
+// an offer may name any, and is refused at the first field outside its limits, with that field's spot.
+#[derive(Clone, Copy, PartialEq, Eq, Debug)]
 pub struct Offer {
     pub number: Number,
     pub seller: u16,
@@ -90,7 +122,7 @@ pub struct Offer {
 }
 
 // What a party brings about in a contract's life.
-#[derive(Clone, Copy)]
+#[derive(Clone, Copy, PartialEq, Eq, Debug)]
 pub enum Event {
     Confirmation,
     Ending,

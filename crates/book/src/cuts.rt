@@ -8,21 +8,19 @@ ghost use Rattle.book.specs.Terms.{class_number};
 
 use crate::classes::ClassScale;
 use crate::contract::{Class, Contract, MOST_PLACES};
-use crate::sound::moderate;
+use crate::room::has_room;
 use scale::fault::{Fault, Reason};
 use scale::share::share;
 
 // A seller's amounts in force in a class.
 fn class_total(taken: &[Contract], seller: u16, class: Class) -> u64
     requires { length taken.now ≤ most_places }
-    ensures total { result ≡ class_sum seller (map claim_of taken.now) (class_number class) }
-    ensures fits { result ≤ 2 ^ 40 }
+    ensures { result ≡ class_sum seller (map claim_of taken.now) (class_number class) }
 {
-    let mut total: u64 = 0;
-    for contract in taken {
-        total += contract.amount_in(seller, class) as u64;
-    }
-    total
+    taken
+        .iter()
+        .map(|contract| u64::from(contract.amount_in(seller, class)))
+        .sum()
 }
 
 // Shares a cut of a class over the seller's contracts. Where nothing is cut the shares stay 0, since the class may weigh nothing.
@@ -54,6 +52,7 @@ fn leave_each(taken: &mut [Contract], seller: u16, class: Class, shares: &[u32])
     requires within { (i : ℕ) (d : Contract) → i < length taken.old → slice_index shares.now i ≤ (slice_index_or taken.old i d).terms.amount }
     ensures { taken.new ≡ left_by seller (class_number class) shares.now taken.old }
 {
+    // by index: after a loop over `iter_mut().zip(..)` nothing is known of the places, so the cut that it left was not proved
     for (i, contract) in taken.iter_mut().enumerate() {
         leave(contract, seller, class, shares[i]);
     }
@@ -66,8 +65,9 @@ fn cut_class(taken: &mut [Contract], seller: u16, class: Class, cut: u32)
     requires moderate { class_sum seller (map claim_of taken.old) (class_number class) ≤ most_total }
     ensures { taken.new ≡ cut_in down_to seller (class_number class) cut taken.old }
 {
-    let mut room = [0u32; 256];
-    let shares = &mut room[0..taken.len()];
+    // the shares of at most so many places stand in fixed memory, since the library allocates nothing
+    let mut room = [0u32; MOST_PLACES];
+    let shares = &mut room[..taken.len()];
     share_cut(taken, seller, class, cut, shares);
     leave_each(taken, seller, class, shares);
 }
@@ -84,24 +84,19 @@ pub fn recut(taken: &mut [Contract], seller: u16, shortfall: u64) -> Result<(), 
             spot: 1,
         });
     }
-    let free = class_total(taken, seller, Class::Free);
-    let retail = class_total(taken, seller, Class::Retail);
-    let regulated = class_total(taken, seller, Class::Regulated);
-    let plant = class_total(taken, seller, Class::Plant);
-    if !moderate(free + retail + regulated + plant) {
+    // what is in force alone may be over the limit, with nothing added
+    if !has_room(taken, seller, 0) {
         return Err(Fault {
             reason: Reason::SellerOverLimit,
             spot: 0,
         });
     }
-    let cut_free = shortfall.min(free);
-    let after_free = shortfall - cut_free;
-    let cut_retail = after_free.min(retail);
-    let after_retail = after_free - cut_retail;
-    let cut_regulated = after_retail.min(regulated);
-    cut_class(taken, seller, Class::Free, cut_free as u32);
-    cut_class(taken, seller, Class::Retail, cut_retail as u32);
-    cut_class(taken, seller, Class::Regulated, cut_regulated as u32);
+    let mut rest = shortfall;
+    for class in [Class::Free, Class::Retail, Class::Regulated] {
+        let cut = rest.min(class_total(taken, seller, class));
+        cut_class(taken, seller, class, cut as u32);
+        rest -= cut;
+    }
     cut_class(taken, seller, Class::Plant, 0);
     Ok(())
 }

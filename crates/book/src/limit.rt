@@ -9,7 +9,7 @@ use scale::fault::{Fault, Reason};
 pub fn limit(number: u32, low: u32, high: u32, reason: Reason, spot: usize) -> Result<(), Fault>
     ensures { refusal_of result ≡ unless (between low high number) (number_of reason) spot }
 {
-    if low <= number && number <= high {
+    if (low..=high).contains(&number) {
         Ok(())
     } else {
         Err(Fault { reason, spot })

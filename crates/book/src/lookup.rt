@@ -9,10 +9,8 @@ pub fn find(taken: &[Contract], number: Number) -> Option<usize>
     ensures place { result ≡ place_of number taken.now }
     ensures first { MatchOption result (Absent number taken.now) (FirstPlace number taken.now) }
 {
-    for (i, contract) in taken.iter().enumerate() {
-        if contract.terms.number == number {
-            return Some(i + 1);
-        }
-    }
-    None
+    taken
+        .iter()
+        .position(|contract| contract.terms.number == number)
+        .map(|i| i + 1)
 }

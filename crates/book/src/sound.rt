@@ -36,12 +36,7 @@ pub fn moderate(total: u64) -> bool
 fn all_moderate(shortfalls: &[u64]) -> bool
     ensures { result ≡ each_moderate shortfalls.now }
 {
-    for shortfall in shortfalls {
-        if !moderate(*shortfall) {
-            return false;
-        }
-    }
-    true
+    shortfalls.iter().all(|shortfall| moderate(*shortfall))
 }
 
 // Whether a contract is sound as far as it and its row tell.
@@ -57,6 +52,7 @@ fn sound_alone(sizes: &Sizes, row: &[u32], contract: &Contract) -> bool
 }
 
 // Adds a contract's amount, if it is in force, to the total of its seller, and says whether that is still within the limit.
+// The totals stand by agent number in fixed memory, since the library allocates nothing.
 fn tally(totals: &mut [u64; 65], contract: &Contract) -> bool
     requires seller { contract.now.terms.seller ≤ 64 }
     requires moderate { slice_index totals.old contract.now.terms.seller ≤ most_total }
@@ -90,6 +86,7 @@ pub fn examine(
     let mut totals = [0u64; 65];
     let mut rest = rows;
     for (i, contract) in taken.iter().enumerate() {
+        // split off and not zipped with chunks: the rows may be too few, and each place left without one is still examined
         let (row, after) = rest.split_at(hours.min(rest.len()));
         rest = after;
         if !sound_alone(sizes, row, contract) || !tally(&mut totals, contract) {

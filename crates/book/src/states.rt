@@ -34,10 +34,7 @@ impl Contract {
     pub fn in_force(&self) -> bool
         ensures { result ≡ in_force self.now }
     {
-        match self.state {
-            State::InForce => true,
-            State::Offered | State::Ended => false,
-        }
+        self.state == State::InForce
     }
 }
 

@@ -1,7 +1,8 @@
 // Terms and offers: the limits of their fields.
-ghost use Rattle.std.specs.Prelude.{◌≡◌, ◌≤◌, IfOk, OnOk};
-ghost use Rattle.book.specs.Terms.{Acceptable, class_number, fields as as_numbers, offer_checks, source_number};
-ghost use Rattle.scale.specs.Refusals.{first_of, number_of, refusal_of, unless};
+ghost use Rattle.std.specs.Prelude.{◌≡◌, IfOk, OnOk};
+ghost use Rattle.scale.specs.declared.fault.Reason.TheVariants.{FieldOutside};
+ghost use Rattle.book.specs.Terms.{Acceptable, fields as as_numbers, offer_checks};
+ghost use Rattle.scale.specs.Refusals.{first_of, refusal_of};
 
 use crate::contract::{Class, MOST_AMOUNT, MOST_NUMBER, Offer, Terms};
 use crate::limit::limit;
@@ -14,23 +15,13 @@ impl Terms {
     pub fn fields(&self) -> Offer
         ensures { result ≡ as_numbers self.now }
     {
-        let class = match self.class {
-            Class::Free => 1,
-            Class::Retail => 2,
-            Class::Regulated => 3,
-            Class::Plant => 4,
-        };
-        let source = match self.source {
-            Source::Conventional => 0,
-            Source::Incentivised => 1,
-        };
         Offer {
             number: self.number,
             seller: self.seller,
             buyer: self.buyer,
             submarket: self.submarket,
-            class,
-            source,
+            class: self.class.into(),
+            source: self.source.into(),
             first: self.first,
             last: self.last,
             amount: self.amount,
@@ -44,25 +35,7 @@ impl Offer {
         ensures refused { refusal_of result ≡ first_of (offer_checks sizes.now self.now) }
         ensures accepts { OnOk result (Acceptable sizes.now self.now) }
     {
-        let agents = sizes.agents() as u32;
-        let hours = sizes.hours() as u32;
-        let first = self.first as u32;
-        limit(self.number as u32, 1, MOST_NUMBER, Reason::FieldOutside, 1)?;
-        limit(self.seller as u32, 1, agents, Reason::FieldOutside, 2)?;
-        limit(self.buyer as u32, 1, agents, Reason::FieldOutside, 3)?;
-        limit(self.submarket as u32, 1, 4, Reason::FieldOutside, 4)?;
-        limit(self.class as u32, 1, 4, Reason::FieldOutside, 5)?;
-        limit(self.source as u32, 0, 1, Reason::FieldOutside, 6)?;
-        limit(first, 1, hours, Reason::FieldOutside, 7)?;
-        limit(self.last as u32, first, hours, Reason::FieldOutside, 8)?;
-        limit(self.amount, 1, MOST_AMOUNT, Reason::FieldOutside, 9)?;
-        if self.seller == self.buyer {
-            return Err(Fault {
-                reason: Reason::SellerIsBuyer,
-                spot: 0,
-            });
-        }
-        Ok(())
+        self.terms(sizes).map(|_| ())
     }
 
     // The terms of an offer, or the refusal of its first check that fails.
@@ -71,14 +44,31 @@ impl Offer {
         ensures holds { IfOk result (λ t. as_numbers t ≡ self.now) }
         ensures accepts { OnOk result (Acceptable sizes.now self.now) }
     {
-        self.check(sizes)?;
+        let agents = sizes.agents().into();
+        let hours = sizes.hours().into();
+        let first = self.first.into();
+        limit(self.number.into(), 1, MOST_NUMBER, Reason::FieldOutside, 1)?;
+        limit(self.seller.into(), 1, agents, Reason::FieldOutside, 2)?;
+        limit(self.buyer.into(), 1, agents, Reason::FieldOutside, 3)?;
+        limit(self.submarket.into(), 1, 4, Reason::FieldOutside, 4)?;
+        let class = Class::try_from(self.class).map_err(|_| outside(5))?;
+        let source = Source::try_from(self.source).map_err(|_| outside(6))?;
+        limit(first, 1, hours, Reason::FieldOutside, 7)?;
+        limit(self.last.into(), first, hours, Reason::FieldOutside, 8)?;
+        limit(self.amount, 1, MOST_AMOUNT, Reason::FieldOutside, 9)?;
+        if self.seller == self.buyer {
+            return Err(Fault {
+                reason: Reason::SellerIsBuyer,
+                spot: 0,
+            });
+        }
         Ok(Terms {
             number: self.number,
             seller: self.seller,
             buyer: self.buyer,
             submarket: self.submarket,
-            class: class_of(self.class),
-            source: source_of(self.source),
+            class,
+            source,
             first: self.first,
             last: self.last,
             amount: self.amount,
@@ -86,26 +76,13 @@ impl Offer {
     }
 }
 
-// The class of a number.
-fn class_of(number: u16) -> Class
-    requires { (1 ≤ number) × (number ≤ 4) }
-    ensures { class_number result ≡ number }
+// The refusal of a field that is outside its limits.
+fn outside(spot: usize) -> Fault
+    ensures reason { result.reason ≡ FieldOutside }
+    ensures spot { result.spot ≡ spot }
 {
-    match number {
-        1 => Class::Free,
-        2 => Class::Retail,
-        3 => Class::Regulated,
-        _ => Class::Plant,
-    }
-}
-
-// The source of a number.
-fn source_of(number: u16) -> Source
-    requires { number ≤ 1 }
-    ensures { source_number result ≡ number }
-{
-    match number {
-        0 => Source::Conventional,
-        _ => Source::Incentivised,
+    Fault {
+        reason: Reason::FieldOutside,
+        spot,
     }
 }

@@ -18,7 +18,7 @@ fn answer_line<W: Write>(session: &mut Session, line: &LineHold, out: &mut W) ->
 {
     let mut page = [0u8; ROOM];
     let n = session.answer(line, &mut page);
-    out.write_all(&page[0..n])
+    out.write_all(&page[..n])
 }
 
 // Answers each line that ends in `block`, and holds what follows the last.
@@ -30,12 +30,12 @@ fn answer_block<W: Write>(
 ) -> io::Result<()>
     ensures { LivesThrough (seen session.old) (seen session.new) }
 {
-    for b in block {
-        if *b == b'\n' {
+    for &b in block {
+        if b == b'\n' {
             answer_line(session, held, out)?;
             held.clear();
         } else {
-            held.push(*b);
+            held.push(b);
         }
     }
     Ok(())
@@ -43,6 +43,7 @@ fn answer_block<W: Write>(
 
 // Answers the lines that end in the next block of input, and hands the answers on before more input is waited for.
 // False at the end of the input.
+#[tactic(auto, using(session::proofs::Lasting::rest))]
 fn step<R: Read, W: Write>(
     session: &mut Session,
     held: &mut LineHold,
@@ -54,16 +55,12 @@ fn step<R: Read, W: Write>(
 {
     match input.read(block) {
         Ok(n) => {
-            answer_block(session, held, &block[0..n], out)?;
+            answer_block(session, held, &block[..n], out)?;
             out.flush()?;
             Ok(n > 0)
         }
-        Err(e) => {
-            if e.kind() == ErrorKind::Interrupted {
-                return Ok(true);
-            }
-            Err(e)
-        }
+        Err(e) if e.kind() == ErrorKind::Interrupted => Ok(true),
+        Err(e) => Err(e),
     }
 }
 
@@ -78,6 +75,7 @@ pub fn answer_all<R: Read, W: Write>(
     ensures { LivesThrough (seen session.old) (seen session.new) }
 {
     let mut held = LineHold::new();
+    // The input says when it ends. Every loop here has an end of its own, so this one is counted.
     for _ in 0..u64::MAX {
         if !step(session, &mut held, input, block, out)? {
             break;

@@ -1,3 +1,4 @@
 pub mod Exact
+pub mod Opposites
 pub mod Steps
 pub mod Totals

@@ -51,8 +51,8 @@ impl Reversible for BySource {
 
     fn of_quantity(quantity: u32, source: Source) -> BySource {
         let (conventional, incentivised) = match source {
-            Source::Conventional => (quantity as i64, 0),
-            Source::Incentivised => (0, quantity as i64),
+            Source::Conventional => (i64::from(quantity), 0),
+            Source::Incentivised => (0, i64::from(quantity)),
         };
         BySource {
             conventional,

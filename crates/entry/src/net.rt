@@ -44,7 +44,7 @@ impl Reversible for Net {
 
     fn of_quantity(quantity: u32, _source: Source) -> Net {
         Net {
-            units: quantity as i64,
+            units: i64::from(quantity),
         }
     }
 

@@ -1,17 +1,67 @@
 // Cases drawn from the generator, and how a group of them is told.
-use anyhow::anyhow;
+use anyhow::bail;
+use model::answers::Refusal;
 use model::random::Random;
 use std::alloc::{AllocError, Global};
 
+// How many cases a group has.
+pub const CASES: u32 = 4000;
+
+// How a case came out: the system and this calculation agree on what is made, or that nothing is, or differ.
+#[derive(Clone, Copy, PartialEq, Eq, Debug)]
+pub enum Outcome {
+    Agrees,
+    Refused,
+    Differs,
+}
+
+impl Outcome {
+    // Of a case that is told this; `right` says whether what an accepted one made is what it should, `unmoved` whether all is as before.
+    pub fn of(
+        told: Result<(), Refusal>,
+        wanted: Result<(), Refusal>,
+        right: bool,
+        unmoved: bool,
+    ) -> Outcome {
+        match told {
+            _ if told != wanted => Outcome::Differs,
+            Ok(()) if right => Outcome::Agrees,
+            Err(_) if unmoved => Outcome::Refused,
+            _ => Outcome::Differs,
+        }
+    }
+}
+
 // Says which case disagrees, and ends with an error.
-pub fn disagrees(rt: &HostRuntime, group: &str, case: u32) -> anyhow::Result<()> {
+pub fn disagrees<T>(rt: &HostRuntime, group: &str, case: u32) -> anyhow::Result<T> {
     println!(rt; "{group}: case {case} disagrees")?;
-    Err(anyhow!("a case disagrees"))
+    bail!("a case disagrees")
+}
+
+// Compares the cases of a group, each as the closure draws it, and answers how many of them are refusals.
+pub fn compare_cases<F: FnMut(&mut Random) -> Result<Outcome, AllocError>>(
+    rt: &HostRuntime,
+    group: &str,
+    seed: u64,
+    mut compare: F,
+) -> anyhow::Result<u32>
+    requires { F.IsAlwaysCallable compare }
+{
+    let mut random = Random::new(seed);
+    let mut refusals: u32 = 0;
+    for case in 0..CASES {
+        match compare(&mut random)? {
+            Outcome::Agrees => {}
+            Outcome::Refused => refusals = refusals.wrapping_add(1),
+            Outcome::Differs => return disagrees(rt, group, case),
+        }
+    }
+    Ok(refusals)
 }
 
 // Says how many cases of a group agreed, of which so many were refusals.
-pub fn agreed(rt: &HostRuntime, group: &str, cases: u32, refusals: u32) -> anyhow::Result<()> {
-    println!(rt; "{group}: {cases} cases agree, {refusals} of them refusals")?;
+pub fn agreed(rt: &HostRuntime, group: &str, refusals: u32) -> anyhow::Result<()> {
+    println!(rt; "{group}: {CASES} cases agree, {refusals} of them refusals")?;
     Ok(())
 }
 
@@ -27,12 +77,12 @@ pub fn draw_weights(
         2 => 1_000_000,
         _ => 400_000_000,
     };
-    let mut weights = Vec::new(heap);
-    for _ in 0..count {
-        let zero = random.between(0, 3) == 0;
-        weights.push(if zero { 0 } else { random.between(0, most) })?;
-    }
-    Ok(weights)
+    (0..count)
+        .map(|_| match random.between(0, 3) {
+            0 => 0,
+            _ => random.between(0, most),
+        })
+        .collect(heap)
 }
 
 // An amount of every size, now and then above what may be shared.
@@ -47,9 +97,5 @@ pub fn draw_amount(random: &mut Random) -> u32 {
 
 // The same numbers in 64 bits.
 pub fn widened(heap: Global, numbers: &[u32]) -> Result<Vec<u64>, AllocError> {
-    let mut wide = Vec::new(heap);
-    for number in numbers {
-        wide.push(u64::from(*number))?;
-    }
-    Ok(wide)
+    numbers.iter().copied().map(u64::from).collect(heap)
 }

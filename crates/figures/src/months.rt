@@ -1,13 +1,14 @@
 // Whole small months of generated calls, accepted and refused, held against the account after each call.
 use crate::drawn::draw_weights;
-use anyhow::anyhow;
+use anyhow::bail;
 use entry::joining::Joining;
 use entry::reversible::Reversible;
+use model::answers::Refusal;
 use model::call::{Call, Named};
 use model::random::Random;
 use month::phase::{Closed, Month, Open};
-use scale::fault::Fault;
 use std::alloc::{AllocError, Global};
+use std::collections::BTreeMap;
 use trial::kind::Kind;
 use trial::making::{Shape, meant};
 use trial::staged::Staged;
@@ -16,34 +17,41 @@ const MONTHS: u32 = 250;
 
 const CALLS: u32 = 40;
 
-// How often each answer came: accepted at 0, a refusal at its number.
+// How often each answer came.
 #[derive(Drop)]
 struct Tally {
-    counts: [u32; 18],
+    accepted: u32,
+    refused: BTreeMap<u16, u32>,
 }
 
 impl Tally {
-    fn note(&mut self, answer: &Result<(), Fault>) {
-        let number = match answer {
-            Ok(()) => 0,
-            Err(fault) => usize::from(fault.reason.number()),
-        };
-        if let Some(count) = self.counts.get_mut(number) {
-            *count = count.wrapping_add(1);
-        }
-    }
-
-    fn show(&self, rt: &HostRuntime, name: &str) -> anyhow::Result<()> {
-        let accepted = self.counts[0];
-        println!(rt; "{name}: {MONTHS} months agree after each call, {accepted} calls accepted")?;
-        for number in 1..18usize {
-            let count = self.counts[number];
-            if count > 0 {
-                println!(rt; "  refused {number}: {count}")?;
+    fn note(&mut self, told: Result<(), Refusal>) -> Result<(), AllocError> {
+        match told {
+            Ok(()) => self.accepted = self.accepted.wrapping_add(1),
+            Err(refusal) => {
+                let count = self.refused.entry(refusal.number)?.or_insert(0);
+                *count = count.wrapping_add(1);
             }
         }
         Ok(())
     }
+
+    fn show(&self, rt: &HostRuntime, name: &str) -> anyhow::Result<()> {
+        let accepted = self.accepted;
+        println!(rt; "{name}: {MONTHS} months agree after each call, {accepted} calls accepted")?;
+        for (number, count) in self.refused.iter() {
+            println!(rt; "  refused {number}: {count}")?;
+        }
+        Ok(())
+    }
+}
+
+// The sizes of a month, and whether its amounts are big.
+#[derive(Clone, Copy)]
+struct Frame {
+    agents: u16,
+    hours: u16,
+    big: bool,
 }
 
 // A number from 1 to `high`, or rarely one that is just outside.
@@ -69,7 +77,8 @@ fn draw_quantity(random: &mut Random, big: bool) -> u32 {
     }
 }
 
-fn draw_offer(random: &mut Random, agents: u16, hours: u16, big: bool) -> Named {
+fn draw_offer(random: &mut Random, frame: Frame) -> Named {
+    let Frame { agents, hours, big } = frame;
     let first = mostly(random, hours);
     let seller = mostly(random, agents);
     let next = if seller >= agents {
@@ -147,17 +156,9 @@ fn draw_shortfall(random: &mut Random, big: bool) -> u64 {
     }
 }
 
-// The sizes of a month, and whether its amounts are big.
-#[derive(Clone, Copy)]
-struct Frame {
-    agents: u16,
-    hours: u16,
-    big: bool,
-}
-
 fn draw_call(random: &mut Random, frame: Frame, offered: &[Named], weights: Vec<u32>) -> Call {
     match random.between(0, 9) {
-        0 | 1 | 2 => Call::Offer(draw_offer(random, frame.agents, frame.hours, frame.big)),
+        0 | 1 | 2 => Call::Offer(draw_offer(random, frame)),
         3 | 4 | 5 => {
             let (number, agent) = draw_party(random, offered, frame.agents);
             Call::Confirm {
@@ -197,8 +198,7 @@ fn live<E: Kind + Drop>(
         let offered = staged.account.offered(heap)?;
         let call = draw_call(random, frame, offered.as_slice(), weights);
         let answer = staged.make(month, &call, shape, raw.as_slice());
-        tally.note(&answer);
-        let _ = staged.note(heap, call, answer)?;
+        tally.note(staged.note(call, answer)?)?;
         staged.compare(heap, month)?;
     }
     staged.compare_quantities(heap, month)
@@ -212,8 +212,8 @@ fn certify<E: Kind + Drop>(
 ) -> anyhow::Result<()> {
     let lines = staged.account.lines(heap)?;
     for agent in 1..=staged.account.agents {
-        let (sold, bought) = staged.compare_turnover(month, lines.as_slice(), agent)?;
-        staged.compare_line(heap, month, agent, sold, bought)?;
+        let turnover = staged.compare_turnover(month, lines.as_slice(), agent)?;
+        staged.compare_line(heap, month, agent, turnover)?;
     }
     staged.compare(heap, month)
 }
@@ -228,7 +228,7 @@ fn one_month<E: Kind + Drop>(
     let places = random.among(1, 6);
     let mut staged: Staged<E> = Staged::new(heap, agents, hours, places)?;
     let Ok(mut month) = staged.open() else {
-        return Err(anyhow!("the month is not opened"));
+        bail!("the month is not opened");
     };
     let lived = live(heap, &mut staged, &mut month, random, tally);
     let closed = month.close();
@@ -244,12 +244,14 @@ pub fn compare_months<E: Kind + Drop>(
     seed: u64,
 ) -> anyhow::Result<()> {
     let mut random = Random::new(seed);
-    let mut tally = Tally { counts: [0; 18] };
+    let mut tally = Tally {
+        accepted: 0,
+        refused: BTreeMap::new(rt.alloc()),
+    };
     for case in 0..MONTHS {
-        let outcome = one_month::<E>(rt.alloc(), &mut random, &mut tally);
-        if outcome.is_err() {
+        if let Err(error) = one_month::<E>(rt.alloc(), &mut random, &mut tally) {
             println!(rt; "{name}: month {case} disagrees")?;
-            return outcome;
+            return Err(error);
         }
     }
     tally.show(rt, name)

@@ -1,10 +1,11 @@
 // The worked session and limits of the rules, with the numbers written out.
 use crate::drawn::disagrees;
 use entry::kinds::Net;
+use model::answers::{Refusal, refused};
 use model::call::{Call, Named};
 use month::phase::{Month, Open};
-use std::alloc::Global;
-use trial::making::Shape;
+use std::alloc::{AllocError, Global};
+use trial::making::{Shape, refusal_of};
 use trial::staged::Staged;
 
 const SEVEN: Named = Named {
@@ -19,23 +20,17 @@ const SEVEN: Named = Named {
     amount: 10,
 };
 
-// Makes a call on a month of four hours, on the even scale. Answers number and spot of its refusal, or 0 and 0.
+// Makes a call on a month of four hours, on the even scale, and answers what it is told.
 fn told(
-    heap: Global,
     staged: &mut Staged<Net>,
     month: &mut Month<Open>,
     call: Call,
-) -> anyhow::Result<(u16, usize)> {
+) -> anyhow::Result<Result<(), Refusal>> {
     let answer = staged.make(month, &call, Shape::Even, &[1; 4]);
-    let code = match &answer {
-        Ok(()) => (0, 0),
-        Err(fault) => (fault.reason.number(), fault.spot),
-    };
-    let _ = staged.note(heap, call, answer)?;
-    Ok(code)
+    staged.note(call, answer)
 }
 
-fn confirmation(heap: Global, number: u16) -> anyhow::Result<Call> {
+fn confirmation(heap: Global, number: u16) -> Result<Call, AllocError> {
     Ok(Call::Confirm {
         number,
         agent: 2,
@@ -45,22 +40,20 @@ fn confirmation(heap: Global, number: u16) -> anyhow::Result<Call> {
 
 // Whether an agent's net position in submarket 1 is this number.
 fn stands(staged: &Staged<Net>, month: &Month<Open>, agent: u16, hour: u16, units: i64) -> bool {
-    match month.net_position(staged.board.as_slice(), agent, 1, hour) {
-        Ok(entry) => entry.units == units,
-        Err(_) => false,
-    }
+    month
+        .true_position::<Net>(staged.board.as_slice(), agent, 1, hour)
+        .is_ok_and(|entry| entry.units == units)
 }
 
 // Whether a call is told this, and leaves this net position.
 fn leaves(
-    heap: Global,
     staged: &mut Staged<Net>,
     month: &mut Month<Open>,
     call: Call,
-    code: (u16, usize),
+    wanted: Result<(), Refusal>,
     (agent, hour, units): (u16, u16, i64),
 ) -> anyhow::Result<bool> {
-    let answered = told(heap, staged, month, call)? == code;
+    let answered = told(staged, month, call)? == wanted;
     Ok(answered && stands(staged, month, agent, hour, units))
 }
 
@@ -73,10 +66,10 @@ fn session_holds(
     let confirmed = confirmation(heap, 7)?;
     let again = confirmation(heap, 7)?;
     Ok(
-        leaves(heap, staged, month, Call::Offer(SEVEN), (0, 0), (1, 2, 0))?
-            && leaves(heap, staged, month, confirmed, (0, 0), (1, 2, 3))?
-            && leaves(heap, staged, month, cut, (0, 0), (2, 4, -2))?
-            && leaves(heap, staged, month, again, (10, 1), (2, 4, -2))?
+        leaves(staged, month, Call::Offer(SEVEN), Ok(()), (1, 2, 0))?
+            && leaves(staged, month, confirmed, Ok(()), (1, 2, 3))?
+            && leaves(staged, month, cut, Ok(()), (2, 4, -2))?
+            && leaves(staged, month, again, refused(10, 1), (2, 4, -2))?
             && stands(staged, month, 1, 2, 1),
     )
 }
@@ -96,33 +89,33 @@ fn limits_hold(
     staged: &mut Staged<Net>,
     month: &mut Month<Open>,
 ) -> anyhow::Result<bool> {
-    let mut right = true;
-    for (number, amount, code) in [
-        (1, 0, (4, 9)),
-        (1, 1_000_000_001, (4, 9)),
-        (1, 1_000_000_000, (0, 0)),
-        (2, 1_000_000_000, (0, 0)),
-        (3, 1, (0, 0)),
+    for (number, amount, wanted) in [
+        (1, 0, refused(4, 9)),
+        (1, 1_000_000_001, refused(4, 9)),
+        (1, 1_000_000_000, Ok(())),
+        (2, 1_000_000_000, Ok(())),
+        (3, 1, Ok(())),
     ] {
-        right = right && told(heap, staged, month, offer(number, amount))? == code;
+        if told(staged, month, offer(number, amount))? != wanted {
+            return Ok(false);
+        }
     }
-    for (number, code) in [(1, (0, 0)), (2, (0, 0)), (3, (15, 3))] {
+    for (number, wanted) in [(1, Ok(())), (2, Ok(())), (3, refused(15, 3))] {
         let call = confirmation(heap, number)?;
-        right = right && told(heap, staged, month, call)? == code;
+        if told(staged, month, call)? != wanted {
+            return Ok(false);
+        }
     }
-    Ok(right)
+    Ok(true)
 }
 
-// Whether a month of so many hours is opened, or refused for its hours.
-fn hours_hold(heap: Global, hours: u16, opens: bool) -> anyhow::Result<bool> {
+// Whether a month of so many hours is told this when it is opened.
+fn hours_hold(heap: Global, hours: u16, wanted: Result<(), Refusal>) -> Result<bool, AllocError> {
     let mut staged: Staged<Net> = Staged::new(heap, 2, hours, 1)?;
-    match staged.open() {
-        Ok(month) => {
-            month.discard();
-            Ok(opens)
-        }
-        Err(fault) => Ok(!opens && fault.reason.number() == 3 && fault.spot == 2),
-    }
+    let opened = staged.open().map(|month| {
+        let _ = month.discard();
+    });
+    Ok(opened.map_err(refusal_of) == wanted)
 }
 
 fn session_case(heap: Global) -> anyhow::Result<bool> {
@@ -132,7 +125,7 @@ fn session_case(heap: Global) -> anyhow::Result<bool> {
     };
     let lived = session_holds(heap, &mut staged, &mut month);
     let closed = month.close();
-    let certified = staged.compare_line(heap, &closed, 2, 0, 5);
+    let certified = staged.compare_line(heap, &closed, 2, (0, 5));
     closed.discard();
     Ok(lived? && certified.is_ok())
 }
@@ -144,7 +137,7 @@ fn limits_case(heap: Global) -> anyhow::Result<bool> {
     };
     let held = limits_hold(heap, &mut staged, &mut month);
     month.discard();
-    Ok(held? && hours_hold(heap, 744, true)? && hours_hold(heap, 745, false)?)
+    Ok(held? && hours_hold(heap, 744, Ok(()))? && hours_hold(heap, 745, refused(3, 2))?)
 }
 
 pub fn compare_session(rt: &HostRuntime) -> anyhow::Result<()> {

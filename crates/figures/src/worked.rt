@@ -24,12 +24,13 @@ fn share_is(
 // What a shortfall leaves of 100 and 50 in class 1, 40 in class 2 and 90 in class 4, by the own rule.
 fn cut_is(shortfall: u64, wanted: [u64; 4]) -> bool {
     let all = [claim(1, 100), claim(1, 50), claim(2, 40), claim(4, 90)];
-    let mut right = true;
-    for i in 0..4usize {
-        let off = cut(&all, &all[0..i], all[i], shortfall);
-        right = right && all[i].amount.saturating_sub(off) == wanted[i];
+    for (i, (claim, left)) in all.iter().zip(&wanted).enumerate() {
+        let off = cut(&all, &all[0..i], *claim, shortfall);
+        if claim.amount.saturating_sub(off) != *left {
+            return false;
+        }
     }
-    right
+    true
 }
 
 fn claim(class: u16, amount: u64) -> Claim {

@@ -5,194 +5,107 @@
 mod plan;
 mod times;
 
-use anyhow::anyhow;
+ghost use Rattle.std.specs.Iterator.{IsFinite};
+
+use anyhow::bail;
 use entry::joining::Joining;
 use entry::kinds::{BySource, Net};
 use entry::reversible::Reversible;
-use model::call::Call;
+use model::answers::Refusal;
 use month::phase::{Closed, Month, Open};
-use plan::{AGENTS, HOURS, PLACES, ends_at, offer_at, raw_at, shape_at, shortfall_of};
+use plan::{AGENTS, FIRST, HOURS, Made, PLACES, SECOND, ends_at};
+use std::alloc::AllocError;
 use std::time::Instant;
 use times::Times;
 use trial::kind::Kind;
-use trial::making::{Shape, meant};
 use trial::staged::Staged;
 
-// Makes a call and times it, holds its answer against the account, and answers the number of its refusal, or 0.
-fn timed<E: Kind + Drop>(
-    rt: &HostRuntime,
-    staged: &mut Staged<E>,
-    month: &mut Month<Open>,
-    call: Call,
-    scale: (Shape, &[u32]),
-    times: &mut Vec<u64>,
-) -> anyhow::Result<u16> {
-    let (shape, raw) = scale;
-    let start = Instant::now(rt)?;
-    let answer = staged.make(month, &call, shape, raw);
-    let took = start.elapsed(rt)?;
-    times.push(u64::try_from(took.as_nanos()).unwrap_or(u64::MAX))?;
-    let number = match &answer {
-        Ok(()) => 0,
-        Err(fault) => fault.reason.number(),
-    };
-    let _ = staged.note(rt.alloc(), call, answer)?;
-    Ok(number)
+// An open month beside its account.
+#[derive(Drop)]
+struct Stage<'a, E: Kind + Drop> {
+    rt: &'a HostRuntime,
+    staged: &'a mut Staged<E>,
+    month: &'a mut Month<Open>,
 }
 
-// Offers every contract.
-fn offer_all<E: Kind + Drop>(
-    rt: &HostRuntime,
-    staged: &mut Staged<E>,
-    month: &mut Month<Open>,
-) -> anyhow::Result<u32> {
-    let mut untold = Vec::new(rt.alloc());
-    let mut accepted: u32 = 0;
-    for place in 0..PLACES {
-        let call = Call::Offer(offer_at(place));
-        if timed(rt, staged, month, call, (Shape::Even, &[]), &mut untold)? == 0 {
-            accepted = accepted.wrapping_add(1);
+impl<'a, E: Kind + Drop> Stage<'a, E> {
+    // Makes a call and times it, holds its answer against the account, and says what it is told.
+    fn timed(&mut self, made: Made, times: &mut Times) -> anyhow::Result<Result<(), Refusal>> {
+        let Made { call, shape, raw } = made;
+        let start = Instant::now(self.rt)?;
+        let answer = self.staged.make(self.month, &call, shape, raw.as_slice());
+        times.keep(start.elapsed(self.rt)?)?;
+        self.staged.note(call, answer)
+    }
+
+    // Makes the calls of a phase, holds everything against the account, and says so, and how many calls were told what is wanted:
+    // a refusal is wanted by its number, which the account has.
+    fn go_through<I: Iterator<Item = Result<Made, AllocError>> + Drop>(
+        &mut self,
+        phase: &str,
+        calls: I,
+        wanted: Result<(), u16>,
+        times: &mut Times,
+    ) -> anyhow::Result<()>
+        requires can { I.can_next calls }
+        requires ends { IsFinite (I.remaining calls) }
+    {
+        let mut count: u32 = 0;
+        for made in calls {
+            let told = self.timed(made?, times)?;
+            if told.map_err(|refusal| refusal.number) == wanted {
+                count = count.wrapping_add(1);
+            }
         }
+        self.staged.compare(self.rt.alloc(), self.month)?;
+        println!(self.rt; "  {count} {phase}: every place, position and hour agrees")?;
+        Ok(())
     }
-    Ok(accepted)
-}
 
-// Confirms every contract, and answers how many of these calls got the answer.
-fn confirm_all<E: Kind + Drop>(
-    rt: &HostRuntime,
-    staged: &mut Staged<E>,
-    month: &mut Month<Open>,
-    times: &mut Vec<u64>,
-    wanted: u16,
-) -> anyhow::Result<u32> {
-    let heap = rt.alloc();
-    let mut count: u32 = 0;
-    for place in 0..PLACES {
-        let offer = offer_at(place);
-        let raw = raw_at(heap, place)?;
-        let call = Call::Confirm {
-            number: offer.number,
-            agent: offer.buyer,
-            weights: meant(heap, shape_at(place), raw.as_slice())?,
-        };
-        let scale = (shape_at(place), raw.as_slice());
-        if timed(rt, staged, month, call, scale, times)? == wanted {
-            count = count.wrapping_add(1);
-        }
+    // Confirms every contract.
+    fn confirm_all(
+        &mut self,
+        phase: &str,
+        wanted: Result<(), u16>,
+        times: &mut Times,
+    ) -> anyhow::Result<()> {
+        let heap = self.rt.alloc();
+        let calls = (0..PLACES).map(move |place| Made::confirmation(heap, place));
+        self.go_through(phase, calls, wanted, times)
     }
-    Ok(count)
-}
 
-// Tells every agent a shortfall.
-fn tell_all<E: Kind + Drop>(
-    rt: &HostRuntime,
-    staged: &mut Staged<E>,
-    month: &mut Month<Open>,
-    times: &mut Vec<u64>,
-    second: bool,
-) -> anyhow::Result<u32> {
-    let mut accepted: u32 = 0;
-    for agent in 1..=AGENTS {
-        let call = Call::Tell {
-            agent,
-            kwh: shortfall_of(agent, second),
-        };
-        if timed(rt, staged, month, call, (Shape::Even, &[]), times)? == 0 {
-            accepted = accepted.wrapping_add(1);
-        }
+    // Tells every agent the shortfall of a round.
+    fn tell_all(&mut self, phase: &str, round: u64, times: &mut Times) -> anyhow::Result<()> {
+        let heap = self.rt.alloc();
+        let calls = (1..=AGENTS).map(move |agent| Ok(Made::telling(heap, agent, round)));
+        self.go_through(phase, calls, Ok(()), times)
     }
-    Ok(accepted)
-}
 
-// Ends some contracts, now by the seller, now by the buyer.
-fn end_some<E: Kind + Drop>(
-    rt: &HostRuntime,
-    staged: &mut Staged<E>,
-    month: &mut Month<Open>,
-    times: &mut Vec<u64>,
-) -> anyhow::Result<u32> {
-    let mut accepted: u32 = 0;
-    for place in 0..PLACES {
-        let offer = offer_at(place);
-        let agent = if place % 2 == 0 {
-            offer.seller
-        } else {
-            offer.buyer
-        };
-        let call = Call::End {
-            number: offer.number,
-            agent,
-        };
-        if ends_at(place) && timed(rt, staged, month, call, (Shape::Even, &[]), times)? == 0 {
-            accepted = accepted.wrapping_add(1);
-        }
+    // The phases of the open month, in turn.
+    fn run(&mut self, name: &str) -> anyhow::Result<()> {
+        let heap = self.rt.alloc();
+        let mut untold = Times::new(heap, "offer");
+        let mut confirm = Times::new(heap, "confirm");
+        let mut repeat = Times::new(heap, "repeat");
+        let mut tell = Times::new(heap, "tell");
+        let mut end = Times::new(heap, "end");
+        let offers = (0..PLACES).map(move |place| Ok(Made::offer(heap, place)));
+        let endings = (0..PLACES)
+            .filter(|place| ends_at(*place))
+            .map(move |place| Ok(Made::ending(heap, place)));
+        self.go_through("offered", offers, Ok(()), &mut untold)?;
+        self.confirm_all("confirmed", Ok(()), &mut confirm)?;
+        self.confirm_all("repeated and refused 10", Err(10), &mut repeat)?;
+        self.tell_all("told a shortfall", FIRST, &mut tell)?;
+        self.tell_all("told another", SECOND, &mut tell)?;
+        self.confirm_all("repeated again and refused 10", Err(10), &mut repeat)?;
+        self.go_through("ended", endings, Ok(()), &mut end)?;
+        confirm.show(self.rt, name)?;
+        repeat.show(self.rt, name)?;
+        tell.show(self.rt, name)?;
+        end.show(self.rt, name)?;
+        Ok(())
     }
-    Ok(accepted)
-}
-
-// Holds everything against the account, and says so.
-fn examine<E: Kind + Drop>(
-    rt: &HostRuntime,
-    staged: &Staged<E>,
-    month: &Month<Open>,
-    count: u32,
-    phase: &str,
-) -> anyhow::Result<()> {
-    staged.compare(rt.alloc(), month)?;
-    println!(rt; "  {count} {phase}: every place, position and hour agrees")?;
-    Ok(())
-}
-
-// The phases of the open month, in turn.
-#[derive(Clone, Copy)]
-enum Phase {
-    Offer,
-    Confirm,
-    Repeat,
-    Tell,
-    TellAnother,
-    End,
-}
-
-const PHASES: [(Phase, &'static str); 7] = [
-    (Phase::Offer, "offered"),
-    (Phase::Confirm, "confirmed"),
-    (Phase::Repeat, "repeated and refused 10"),
-    (Phase::Tell, "told a shortfall"),
-    (Phase::TellAnother, "told another"),
-    (Phase::Repeat, "repeated again and refused 10"),
-    (Phase::End, "ended"),
-];
-
-// Makes the calls of a phase, and answers how many got the answer that they should.
-fn go_through<E: Kind + Drop>(
-    rt: &HostRuntime,
-    staged: &mut Staged<E>,
-    month: &mut Month<Open>,
-    times: &mut Times,
-    phase: Phase,
-) -> anyhow::Result<u32> {
-    match phase {
-        Phase::Offer => offer_all(rt, staged, month),
-        Phase::Confirm => confirm_all(rt, staged, month, &mut times.confirm, 0),
-        Phase::Repeat => confirm_all(rt, staged, month, &mut times.repeat, 10),
-        Phase::Tell => tell_all(rt, staged, month, &mut times.tell, false),
-        Phase::TellAnother => tell_all(rt, staged, month, &mut times.tell, true),
-        Phase::End => end_some(rt, staged, month, &mut times.end),
-    }
-}
-
-fn run<E: Kind + Drop>(
-    rt: &HostRuntime,
-    staged: &mut Staged<E>,
-    month: &mut Month<Open>,
-    times: &mut Times,
-) -> anyhow::Result<()> {
-    for (phase, name) in PHASES {
-        let count = go_through(rt, staged, month, times, phase)?;
-        examine(rt, staged, month, count, name)?;
-    }
-    Ok(())
 }
 
 // Asks every certificate line, holds each against the account, and writes what they come to.
@@ -206,10 +119,10 @@ fn certify<E: Kind + Drop>(
     let mut sold: u64 = 0;
     let mut bought: u64 = 0;
     for agent in 1..=AGENTS {
-        let (s, b) = staged.compare_turnover(month, lines.as_slice(), agent)?;
-        staged.compare_line(heap, month, agent, s, b)?;
-        sold = sold.wrapping_add(s);
-        bought = bought.wrapping_add(b);
+        let turnover = staged.compare_turnover(month, lines.as_slice(), agent)?;
+        staged.compare_line(heap, month, agent, turnover)?;
+        sold = sold.wrapping_add(turnover.0);
+        bought = bought.wrapping_add(turnover.1);
     }
     println!(rt; "  {AGENTS} certificate lines: sold {sold} bought {bought}")?;
     Ok(())
@@ -218,11 +131,16 @@ fn certify<E: Kind + Drop>(
 // Goes through all phases of an opened month, and closes it.
 fn live<E: Kind + Drop>(
     rt: &HostRuntime,
+    name: &str,
     staged: &mut Staged<E>,
     mut month: Month<Open>,
-    times: &mut Times,
 ) -> anyhow::Result<()> {
-    let ran = run(rt, staged, &mut month, times);
+    let mut stage = Stage {
+        rt,
+        staged: &mut *staged,
+        month: &mut month,
+    };
+    let ran = stage.run(name);
     let closed = month.close();
     let certified = certify(rt, staged, &closed);
     closed.discard();
@@ -231,21 +149,18 @@ fn live<E: Kind + Drop>(
 }
 
 // Stages the month in one kind of entry.
-fn stage<E: Kind + Drop>(rt: &HostRuntime, name: &str) -> anyhow::Result<()> {
+fn stage_in<E: Kind + Drop>(rt: &HostRuntime, name: &str) -> anyhow::Result<()> {
     println!(rt; "{name}: {AGENTS} agents, {HOURS} hours, {PLACES} places")?;
-    let mut times = Times::new(rt.alloc());
     let mut staged: Staged<E> = Staged::new(rt.alloc(), AGENTS, HOURS, PLACES)?;
     match staged.open() {
-        Ok(month) => live(rt, &mut staged, month, &mut times)?,
-        Err(_) => return Err(anyhow!("the month is not opened")),
+        Ok(month) => live(rt, name, &mut staged, month),
+        Err(_) => bail!("the month is not opened"),
     }
-    times.show(rt, name)?;
-    Ok(())
 }
 
 fn both(rt: &HostRuntime) -> anyhow::Result<()> {
-    stage::<Net>(rt, "net")?;
-    stage::<BySource>(rt, "by-source")
+    stage_in::<Net>(rt, "net")?;
+    stage_in::<BySource>(rt, "by-source")
 }
 
 fn main(rt: HostRuntime) -> anyhow::Result<()> {

@@ -1,7 +1,7 @@
 // What the full month stages: 64 agents, 744 hours, 256 places, by formulas that bench/plain.rs repeats.
-use model::call::Named;
+use model::call::{Call, Named};
 use std::alloc::{AllocError, Global};
-use trial::making::Shape;
+use trial::making::{Shape, meant};
 
 pub const AGENTS: u16 = 64;
 
@@ -11,14 +11,14 @@ pub const PLACES: u16 = 256;
 
 // A remainder in 16 bits.
 fn rest(number: u32, by: u16) -> u16 {
-    match number.checked_rem(u32::from(by)) {
-        Some(rest) => u16::try_from(rest).unwrap_or(0),
-        None => 0,
-    }
+    number
+        .checked_rem(u32::from(by))
+        .and_then(|rest| u16::try_from(rest).ok())
+        .unwrap_or(0)
 }
 
 // The offer at a place, counted from 0. Every seller has four contracts, of at most 1,924,000,012 kWh in all.
-pub fn offer_at(place: u16) -> Named {
+fn offer_at(place: u16) -> Named {
     let p = u32::from(place);
     let seller = rest(p, 64);
     let round = p / 64;
@@ -38,7 +38,7 @@ pub fn offer_at(place: u16) -> Named {
 }
 
 // The scale that a place is confirmed on.
-pub fn shape_at(place: u16) -> Shape {
+fn shape_at(place: u16) -> Shape {
     match place % 3 {
         0 => Shape::Even,
         1 => Shape::Row,
@@ -50,13 +50,13 @@ pub fn shape_at(place: u16) -> Shape {
 }
 
 // The weights that a place's scale is made of.
-pub fn raw_at(heap: Global, place: u16) -> Result<Vec<u32>, AllocError> {
-    let mut weights = Vec::new(heap);
-    for hour in 1..=u32::from(HOURS) {
-        let bent = hour.wrapping_mul(hour).wrapping_mul(31);
-        weights.push(bent.wrapping_add(u32::from(place).wrapping_mul(7)) % 1000 + 1)?;
-    }
-    Ok(weights)
+fn raw_at(heap: Global, place: u16) -> Result<Vec<u32>, AllocError> {
+    (1..=u32::from(HOURS))
+        .map(|hour| {
+            let bent = hour.wrapping_mul(hour).wrapping_mul(31);
+            bent.wrapping_add(u32::from(place).wrapping_mul(7)) % 1000 + 1
+        })
+        .collect(heap)
 }
 
 // Whether a place is ended at last: one contract of each seller.
@@ -64,8 +64,64 @@ pub fn ends_at(place: u16) -> bool {
     place.wrapping_add(place / 64) % 4 == 1
 }
 
-// The shortfall told of an agent, in the first round or the second.
-pub fn shortfall_of(agent: u16, second: bool) -> u64 {
-    let factor: u64 = if second { 27_182_818 } else { 31_415_926 };
-    u64::from(agent).wrapping_mul(factor) % 2_000_000_001
+// What the shortfalls told of agents are made of, in the first round and the second.
+pub const FIRST: u64 = 31_415_926;
+
+pub const SECOND: u64 = 27_182_818;
+
+// The shortfall told of an agent, in a round.
+fn shortfall_of(agent: u16, round: u64) -> u64 {
+    u64::from(agent).wrapping_mul(round) % 2_000_000_001
+}
+
+// A call as it is made: a confirmation on a scale of this shape and these weights.
+#[derive(Drop)]
+pub struct Made {
+    pub call: Call,
+    pub shape: Shape,
+    pub raw: Vec<u32>,
+}
+
+impl Made {
+    // A call that needs no scale.
+    fn plain(heap: Global, call: Call) -> Made {
+        Made {
+            call,
+            shape: Shape::Even,
+            raw: Vec::new(heap),
+        }
+    }
+
+    pub fn offer(heap: Global, place: u16) -> Made {
+        Made::plain(heap, Call::Offer(offer_at(place)))
+    }
+
+    pub fn confirmation(heap: Global, place: u16) -> Result<Made, AllocError> {
+        let offer = offer_at(place);
+        let shape = shape_at(place);
+        let raw = raw_at(heap, place)?;
+        let call = Call::Confirm {
+            number: offer.number,
+            agent: offer.buyer,
+            weights: meant(heap, shape, raw.as_slice())?,
+        };
+        Ok(Made { call, shape, raw })
+    }
+
+    pub fn telling(heap: Global, agent: u16, round: u64) -> Made {
+        let kwh = shortfall_of(agent, round);
+        Made::plain(heap, Call::Tell { agent, kwh })
+    }
+
+    // An ending, now by the seller, now by the buyer.
+    pub fn ending(heap: Global, place: u16) -> Made {
+        let offer = offer_at(place);
+        let agent = if place % 2 == 0 {
+            offer.seller
+        } else {
+            offer.buyer
+        };
+        let number = offer.number;
+        Made::plain(heap, Call::End { number, agent })
+    }
 }

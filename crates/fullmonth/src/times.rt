@@ -1,37 +1,33 @@
-// How long calls took, in nanoseconds.
-use std::alloc::Global;
+// How long the calls of one sort took, in nanoseconds.
+use std::alloc::{AllocFailed, Global};
 use std::io;
+use std::time::Duration;
 
 #[derive(Drop)]
 pub struct Times {
-    pub confirm: Vec<u64>,
-    pub repeat: Vec<u64>,
-    pub tell: Vec<u64>,
-    pub end: Vec<u64>,
+    call: &'static str,
+    took: Vec<u64>,
 }
 
 impl Times {
-    pub fn new(heap: Global) -> Times {
+    pub fn new(heap: Global, call: &'static str) -> Times {
         Times {
-            confirm: Vec::new(heap),
-            repeat: Vec::new(heap),
-            tell: Vec::new(heap),
-            end: Vec::new(heap),
+            call,
+            took: Vec::new(heap),
         }
     }
 
-    // Writes how many calls of each sort were made, and the median of their times.
-    pub fn show(&mut self, rt: &HostRuntime, name: &str) -> io::Result<()> {
-        show_median(rt, name, "confirm", &mut self.confirm)?;
-        show_median(rt, name, "repeat", &mut self.repeat)?;
-        show_median(rt, name, "tell", &mut self.tell)?;
-        show_median(rt, name, "end", &mut self.end)
+    pub fn keep(&mut self, took: Duration) -> Result<(), AllocFailed<u64>> {
+        self.took
+            .push(u64::try_from(took.as_nanos()).unwrap_or(u64::MAX))
     }
-}
 
-fn show_median(rt: &HostRuntime, name: &str, call: &str, times: &mut Vec<u64>) -> io::Result<()> {
-    times.sort_unstable();
-    let count = times.len();
-    let median = times.get(count / 2).copied().unwrap_or(0);
-    eprintln!(rt; "{name} {call} {count} {median}")
+    // Writes how many calls were made, and the median of their times.
+    pub fn show(&mut self, rt: &HostRuntime, name: &str) -> io::Result<()> {
+        self.took.sort_unstable();
+        let call = self.call;
+        let count = self.took.len();
+        let median = self.took.get(count / 2).copied().unwrap_or(0);
+        eprintln!(rt; "{name} {call} {count} {median}")
+    }
 }

@@ -28,6 +28,16 @@ purchases_in b test agent submarket hour = sum_to (length b.lines) (λ i.
 abbrev pub difference_in : Ledger → (ℕ → Bool) → ℕ → ℕ → ℕ → ℤ
 difference_in b test agent submarket hour = pos (sales_in b test agent submarket hour) -ℤ pos (purchases_in b test agent submarket hour)
 
+-- the entry that holds it: of all sources, or of each
+abbrev pub net_difference : Ledger → ℕ → ℕ → ℕ → Net
+net_difference b agent submarket hour = record { units = difference_in b (λ _. true) agent submarket hour }
+
+abbrev pub by_source_difference : Ledger → ℕ → ℕ → ℕ → BySource
+by_source_difference b agent submarket hour = record {
+  conventional = difference_in b (nat_eq 0) agent submarket hour;
+  incentivised = difference_in b (nat_eq 1) agent submarket hour;
+}
+
 -- what holds of every position in every life
 abbrev pub AtEachPosition : {V : Type 0} → Kind V → (Ledger → V → ℕ → ℕ → ℕ → Type 0) → Type 0
 AtEachPosition k holds = (past : List Event) (s : State _) → Lived k past s → (agent submarket hour : ℕ) →

@@ -8,6 +8,7 @@ ghost use Rattle.ledger.specs.Lives.{LivesBalance};
 use entry::joining::Joining;
 use entry::reversible::Reversible;
 
+pub mod counted;
 pub mod differences;
 
 // Every life balances, for each kind of entry that a board accepts: whoever calls it has the law at hand.

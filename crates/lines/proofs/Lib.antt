@@ -2,5 +2,3 @@ pub mod Numbers
 pub mod Spelled
 pub mod Meant
 pub mod Short
-pub mod Pushed
-pub mod Joined

@@ -1,5 +1,5 @@
 // What a line can ask for. The fields have the order of the line's numbers.
-#[derive(Clone, Copy)]
+#[derive(Clone, Copy, PartialEq, Eq, Debug)]
 pub enum Command {
     Open {
         agents: u16,

@@ -1,80 +1,42 @@
 // Lines as commands.
-ghost use Rattle.std.specs.Prelude.{◌≡◌, ℕ, ◌^◌, ◌<◌, ◌≤◌, List, length, take, decimal, MatchOption, ◌≢◌, slice_index};
+ghost use Rattle.std.specs.Prelude.{◌≡◌, ℕ, ◌^◌, ◌<◌, ◌≤◌, List, length, decimal, MatchOption, ◌≢◌};
+ghost use Rattle.std.specs.Option.{SomeIff};
 ghost use Rattle.lines.specs.Grammar.{spelled, Only, AllWide, AllShort, Means, Parsed, Exact, Within};
 
 use crate::command::Command;
-
-// The largest numbers of 16 and of 32 bits.
-const LARGEST_SHORT: u64 = 65535;
-
-const LARGEST_AMOUNT: u64 = 4294967295;
+use arrayvec::ArrayVec;
 
 // The number that the whole of `text` writes: digits alone, with no zero in front.
 fn number(text: &[u8]) -> Option<u64>
     ensures { MatchOption result ((n : ℕ) → n < 2 ^ 64 → text.now ≢ decimal n) (λ n. text.now ≡ decimal n) }
 {
-    if text.len() == 0 {
-        return None;
-    }
-    if text[0] == b'+' {
-        return None;
-    }
-    if text[0] == b'0' && text.len() > 1 {
-        return None;
-    }
-    match std::str::from_utf8(text) {
-        Ok(digits) => match digits.parse::<u64>() {
-            Ok(n) => Some(n),
-            Err(_) => None,
-        },
-        Err(_) => None,
+    match *text.first()? {
+        b'+' => None,
+        b'0' if text.len() > 1 => None,
+        _ => std::str::from_utf8(text).ok()?.parse().ok(),
     }
 }
 
-// How many bytes come before the first space.
-fn word_len(text: &[u8]) -> usize
-    ensures within { result ≤ length text.now }
-    ensures solid { (k : ℕ) → k < result → slice_index text.now k ≢ 32 }
-    ensures stops { result < length text.now → slice_index text.now result ≡ 32 }
+// The numbers of a line after its letter, at most nine, each after one space.
+fn read_numbers(text: &[u8]) -> Option<ArrayVec<u64, 9>>
+    ensures { MatchOption result ((ns : List ℕ) → AllWide ns → length ns ≤ 9 → text.now ≢ spelled ns) (λ v. Only text.now v.items) }
 {
-    for (i, b) in text.iter().enumerate() {
-        if *b == b' ' {
-            return i;
-        }
+    let mut words = text.split(|b| *b == b' ');
+    if !words.next()?.is_empty() {
+        return None;
     }
-    text.len()
+    let mut numbers = ArrayVec::new();
+    for word in words {
+        numbers.try_push(number(word)?).ok()?;
+    }
+    Some(numbers)
 }
 
-// The numbers of a line, at most nine.
-#[derive(Clone, Copy)]
-struct Numbers {
-    count: usize,
-    values: [u64; 9],
-    ghost few: { count ≤ 9 },
-}
-
-// Reads numbers, each after one space, to the end of `text`.
-fn read_numbers(text: &[u8]) -> Option<Numbers>
-    ensures { MatchOption result ((ns : List ℕ) → AllWide ns → length ns ≤ 9 → text.now ≢ spelled ns) (λ f. Only text.now (take f.count f.values)) }
+// A number of 16 bits.
+fn short(n: u64) -> Option<u16>
+    ensures { SomeIff result (n < 2 ^ 16) n }
 {
-    let mut values = [0u64; 9];
-    let mut count = 0;
-    let mut rest = text;
-    while rest.len() > 0 {
-        if count == 9 {
-            return None;
-        }
-        if rest[0] != b' ' {
-            return None;
-        }
-        let after = &rest[1..];
-        let (word, left) = after.split_at(word_len(after));
-        let n = number(word)?;
-        values[count] = n;
-        count += 1;
-        rest = left;
-    }
-    Some(Numbers { count, values })
+    u16::try_from(n).ok()
 }
 
 // The numbers, if there are N of them and each is below 2^16.
@@ -84,14 +46,12 @@ fn shorts<const N: usize>(numbers: &[u64]) -> Option<[u16; N]>
     if numbers.len() != N {
         return None;
     }
-    let mut out = [0u16; N];
+    let mut shorts = [0; N];
+    // By index, since an invariant cannot name an array that `iter_mut` holds.
     for (i, n) in numbers.iter().enumerate() {
-        if *n > LARGEST_SHORT {
-            return None;
-        }
-        out[i] = *n as u16;
+        shorts[i] = short(*n)?;
     }
-    Some(out)
+    Some(shorts)
 }
 
 fn open(numbers: &[u64]) -> Option<Command>
@@ -109,15 +69,8 @@ fn open(numbers: &[u64]) -> Option<Command>
 fn offer(numbers: &[u64]) -> Option<Command>
     ensures { Means 79 numbers.now result }
 {
-    if numbers.len() != 9 {
-        return None;
-    }
-    let (front, back) = numbers.split_at(8);
-    let amount = back[0];
-    if amount > LARGEST_AMOUNT {
-        return None;
-    }
-    let [number, seller, buyer, submarket, class, source, first, last] = shorts::<8>(front)?;
+    let (amount, fields) = numbers.split_last()?;
+    let [number, seller, buyer, submarket, class, source, first, last] = shorts::<8>(fields)?;
     Some(Command::Offer {
         number,
         seller,
@@ -127,7 +80,7 @@ fn offer(numbers: &[u64]) -> Option<Command>
         source,
         first,
         last,
-        amount: amount as u32,
+        amount: u32::try_from(*amount).ok()?,
     })
 }
 
@@ -148,12 +101,12 @@ fn finish(numbers: &[u64]) -> Option<Command>
 fn tell(numbers: &[u64]) -> Option<Command>
     ensures { Means 83 numbers.now result }
 {
-    if numbers.len() != 2 || numbers[0] > LARGEST_SHORT {
+    let [agent, kwh] = numbers else {
         return None;
-    }
+    };
     Some(Command::Tell {
-        agent: numbers[0] as u16,
-        kwh: numbers[1],
+        agent: short(*agent)?,
+        kwh: *kwh,
     })
 }
 
@@ -171,11 +124,7 @@ fn position(numbers: &[u64]) -> Option<Command>
 fn close(numbers: &[u64]) -> Option<Command>
     ensures { Means 90 numbers.now result }
 {
-    if numbers.len() == 0 {
-        Some(Command::Close)
-    } else {
-        None
-    }
+    numbers.is_empty().then_some(Command::Close)
 }
 
 fn certificate(numbers: &[u64]) -> Option<Command>
@@ -208,9 +157,6 @@ pub fn parse_line(line: &[u8]) -> Option<Command>
     ensures exact { Exact line.now result }
     ensures within { Within line.now result }
 {
-    if line.len() == 0 {
-        return None;
-    }
-    let found = read_numbers(&line[1..])?;
-    meant(line[0], &found.values[0..found.count])
+    let (letter, rest) = line.split_first()?;
+    meant(*letter, read_numbers(rest)?.as_slice())
 }

@@ -7,7 +7,7 @@ pub struct Account {
     pub agents: u16,
     pub hours: u16,
     pub places: u16,
-    calls: Vec<Call>,
+    pub(crate) calls: Vec<Call>,
 }
 
 impl Account {
@@ -27,42 +27,30 @@ impl Account {
 
     // The terms offered, in the order of their places.
     pub fn offered(&self, heap: Global) -> Result<Vec<Named>, AllocError> {
-        let mut terms = Vec::new(heap);
-        for call in self.calls.iter() {
-            if let Call::Offer(named) = call {
-                terms.push(*named)?;
-            }
-        }
-        Ok(terms)
+        self.calls
+            .iter()
+            .filter_map(Call::offered)
+            .copied()
+            .collect(heap)
     }
 
     // The weights that a contract was confirmed on, if it was.
     pub fn confirmed(&self, contract: u16) -> Option<&Vec<u32>> {
-        for call in self.calls.iter() {
-            if let Call::Confirm {
+        self.calls.iter().find_map(|call| match call {
+            Call::Confirm {
                 number,
                 weights,
                 ..
-            } = call
-            {
-                if *number == contract {
-                    return Some(weights);
-                }
-            }
-        }
-        None
+            } if *number == contract => Some(weights),
+            _ => None,
+        })
     }
 
     // Whether a contract was ended.
     pub fn ended(&self, contract: u16) -> bool {
-        for call in self.calls.iter() {
-            if let Call::End { number, .. } = call {
-                if *number == contract {
-                    return true;
-                }
-            }
-        }
-        false
+        self.calls.iter().any(
+            |call| matches!(call, Call::End { number, .. } if *number == contract),
+        )
     }
 
     pub fn in_force(&self, contract: u16) -> bool {
@@ -71,14 +59,13 @@ impl Account {
 
     // The shortfall last told of an agent.
     pub fn shortfall(&self, of: u16) -> u64 {
-        let mut last = 0;
-        for call in self.calls.iter() {
-            if let Call::Tell { agent, kwh } = call {
-                if *agent == of {
-                    last = *kwh;
-                }
-            }
-        }
-        last
+        self.calls
+            .iter()
+            .rev()
+            .find_map(|call| match call {
+                Call::Tell { agent, kwh } if *agent == of => Some(*kwh),
+                _ => None,
+            })
+            .unwrap_or(0)
     }
 }

@@ -1,7 +1,7 @@
-// What is called, in plain numbers.
+// What is called, in plain numbers. Classes, sources and refusals stay numbers here, those of the rules, since no type of the system may be shared.
 
 // What an offer names.
-#[derive(Clone, Copy)]
+#[derive(Clone, Copy, PartialEq, Eq, Debug)]
 pub struct Named {
     pub number: u16,
     pub seller: u16,
@@ -31,4 +31,14 @@ pub enum Call {
         agent: u16,
         kwh: u64,
     },
+}
+
+impl Call {
+    // What it offers, if it is an offer.
+    pub fn offered(&self) -> Option<&Named> {
+        match self {
+            Call::Offer(named) => Some(named),
+            _ => None,
+        }
+    }
 }

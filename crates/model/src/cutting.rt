@@ -1,23 +1,32 @@
 // The cut of one contract, each worked out alone from the sums that it depends on.
+use crate::call::Named;
 use crate::sharing::part_between;
 
 // What a cut looks at: a seller's contract in force, its class and its amount.
-#[derive(Clone, Copy)]
+#[derive(Clone, Copy, PartialEq, Eq, Debug)]
 pub struct Claim {
     pub seller: u16,
     pub class: u16,
     pub amount: u64,
 }
 
-// The amounts of a seller's claims whose class is from `low` to `high`.
-pub fn claimed(claims: &[Claim], seller: u16, low: u16, high: u16) -> u64 {
-    let mut total: u64 = 0;
-    for claim in claims {
-        if claim.seller == seller && claim.class >= low && claim.class <= high {
-            total = total.wrapping_add(claim.amount);
+impl From<Named> for Claim {
+    fn from(named: Named) -> Claim {
+        Claim {
+            seller: named.seller,
+            class: named.class,
+            amount: u64::from(named.amount),
         }
     }
-    total
+}
+
+// The amounts of a seller's claims whose class is from `low` to `high`.
+pub fn claimed(claims: &[Claim], seller: u16, low: u16, high: u16) -> u64 {
+    claims
+        .iter()
+        .filter(|claim| claim.seller == seller && (low..=high).contains(&claim.class))
+        .map(|claim| claim.amount)
+        .fold(0, u64::wrapping_add)
 }
 
 // What a seller's shortfall takes off the claim that comes after `before` and ahead of the rest in place order.

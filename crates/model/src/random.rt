@@ -30,7 +30,7 @@ impl Random {
         low.saturating_add(u32::try_from(step).unwrap_or(0))
     }
 
-    // The same in 16 bits.
+    // The same in 16 bits, by the one above: a bound over both types would be longer than this.
     pub fn among(&mut self, low: u16, high: u16) -> u16 {
         let number = self.between(u32::from(low), u32::from(high));
         u16::try_from(number).unwrap_or(low)

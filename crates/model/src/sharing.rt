@@ -3,27 +3,23 @@ use std::alloc::{AllocError, Global};
 
 // The total of some numbers.
 pub fn sum(numbers: &[u64]) -> u64 {
-    let mut total: u64 = 0;
-    for number in numbers {
-        total = total.wrapping_add(*number);
-    }
-    total
+    numbers.iter().copied().fold(0, u64::wrapping_add)
 }
 
 // The parts that weights get of an amount; nothing, where they weigh nothing.
 pub fn parts(heap: Global, amount: u64, weights: &[u64]) -> Result<Vec<u64>, AllocError> {
-    let mut out = Vec::new(heap);
     let total = sum(weights);
     if total == 0 {
-        return Ok(out);
+        return Ok(Vec::new(heap));
     }
-    let mut carried: u64 = 0;
-    for weight in weights {
-        let due = amount.wrapping_mul(*weight).wrapping_add(carried);
-        out.push(due / total)?;
-        carried = due % total;
-    }
-    Ok(out)
+    weights
+        .iter()
+        .scan(0u64, |carried, weight| {
+            let due = amount.wrapping_mul(*weight).wrapping_add(*carried);
+            *carried = due % total;
+            Some(due / total)
+        })
+        .collect(heap)
 }
 
 // What the weights from `from` up to `to` get of an amount over a total: the difference of two exact products rounded down.

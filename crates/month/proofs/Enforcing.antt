@@ -15,11 +15,11 @@ use Rattle.book.specs.States.{in_force, is_in_force}
 use Rattle.book.specs.Terms.{blank}
 use Rattle.ledger.specs.Calls.{Enforced, enforced, put_row, rounding}
 use Rattle.ledger.specs.States.{State, contracts, contract_at, agent_shortfall}
+use Rattle.ledger.proofs.Numbers.{first_none as passed, unless_none as held}
 use Rattle.ledger.proofs.Rows.{length_put, row_here, row_there}
 use Rattle.settle.specs.Settled.{Ready}
 use Rattle.month.specs.Settling.{Chosen, Settled, Supplied}
 use Rattle.month.proofs.Changing.{ready_changed, resettled, sells_none, sold_changed}
-use Rattle.month.proofs.Checked.{held, passed}
 use Rattle.month.proofs.Finishing.{covered, long, room, row_fits}
 use Rattle.month.proofs.Supplying.{supply}
 
@@ -109,14 +109,13 @@ module _ {V : Type 0} (s : State V) (number index : ℕ) (contract : Contract) (
       amount_same = ap (λ t. t.amount) same_terms
 
   pub entered : (k : Kind V) → Laws (joins k) → (t : State V) → t.taken ≡ s.taken → t.sizes ≡ s.sizes → t.rows ≡ written → t.shortfalls ≡ s.shortfalls
-      → (short : ℕ) → short ≡ agent_shortfall s contract.terms.seller
-      → Settled k s.sizes s.taken contract.terms.seller short (set (contracts s) index contract) written s.places t.places s.board t.board
+      → Settled k s.sizes s.taken contract.terms.seller (agent_shortfall s contract.terms.seller) (set (contracts s) index contract) written s.places t.places s.board t.board
       → Enforced k number weights s t
-  entered k laws t taken sizes rows shortfalls short is settled =
-      let owed : short ≡ agent_shortfall t contract.terms.seller = is ∙ ap (λ (f : List ℕ). get_or f (contract.terms.seller - 1) 0) (sym shortfalls) in
+  entered k laws t taken sizes rows shortfalls settled =
       let named : Settled k s.sizes s.taken here.terms.seller (agent_shortfall t here.terms.seller) (set (contracts s) index (enforced here)) written s.places t.places s.board t.board
       = subst (λ (c : Contract). Settled k s.sizes s.taken c.terms.seller (agent_shortfall t c.terms.seller) (set (contracts s) index c) written s.places t.places s.board t.board) chosen.is
-      (subst (λ (n : ℕ). Settled k s.sizes s.taken contract.terms.seller n (set (contracts s) index contract) written s.places t.places s.board t.board) owed settled) in
+      (subst (λ (f : List ℕ). Settled k s.sizes s.taken contract.terms.seller (get_or f (contract.terms.seller - 1) 0) (set (contracts s) index contract) written s.places t.places s.board t.board)
+      (sym shortfalls) settled) in
       record {
         index = index;
         found = chosen.found;

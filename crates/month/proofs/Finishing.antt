@@ -1,6 +1,6 @@
 -- An ending and a telling, from what was admitted to the next state of the month.
 use Rattle.std.proofs.Common.{◌≡◌, ℕ, ◌+◌, ◌-◌, ◌*◌, ◌<◌, ◌≤◌, false, List, length, get_or, set, sym, refl, ap, ◌∙◌, subst, mul-le-mul_right, arith}
-use Rattle.std.proofs.lemmas.List.{get_or-set_same, length-take-le}
+use Rattle.std.proofs.lemmas.List.{length-take-le}
 use Rattle.std.proofs.lemmas.Bool.{false≢true}
 use Rattle.entry.specs.Kinds.{Kind, Laws, joins}
 use Rattle.book.specs.declared.contract.Contract.{Contract}
@@ -69,15 +69,13 @@ module _ {V : Type 0} (s : State V) (number index : ℕ) (contract : Contract) (
       )
 
   pub finished : (k : Kind V) → Laws (joins k) → (t : State V) → t.taken ≡ s.taken → t.sizes ≡ s.sizes → t.rows ≡ s.rows → t.shortfalls ≡ s.shortfalls
-      → (short : ℕ) → short ≡ agent_shortfall s contract.terms.seller
-      → Settled k s.sizes s.taken contract.terms.seller short (set (contracts s) index contract) s.rows s.places t.places s.board t.board
+      → Settled k s.sizes s.taken contract.terms.seller (agent_shortfall s contract.terms.seller) (set (contracts s) index contract) s.rows s.places t.places s.board t.board
       → Finished k number s t
-  finished k laws t taken sizes rows shortfalls short is settled =
-      let at = same_terms in
-      let owed : short ≡ agent_shortfall t contract.terms.seller = is ∙ ap (λ (f : List ℕ). get_or f (contract.terms.seller - 1) 0) (sym shortfalls) in
+  finished k laws t taken sizes rows shortfalls settled =
       let named : Settled k s.sizes s.taken here.terms.seller (agent_shortfall t here.terms.seller) (set (contracts s) index (ended here)) s.rows s.places t.places s.board t.board
       = subst (λ (c : Contract). Settled k s.sizes s.taken c.terms.seller (agent_shortfall t c.terms.seller) (set (contracts s) index c) s.rows s.places t.places s.board t.board) chosen.is
-      (subst (λ (n : ℕ). Settled k s.sizes s.taken contract.terms.seller n (set (contracts s) index contract) s.rows s.places t.places s.board t.board) owed settled) in
+      (subst (λ (f : List ℕ). Settled k s.sizes s.taken contract.terms.seller (get_or f (contract.terms.seller - 1) 0) (set (contracts s) index contract) s.rows s.places t.places s.board t.board)
+      (sym shortfalls) settled) in
       record {
         index = index;
         found = chosen.found;
@@ -88,19 +86,13 @@ module _ {V : Type 0} (s : State V) (number index : ℕ) (contract : Contract) (
       }
 
 -- a shortfall that was told stands in the place of the earlier one
-module _ {V : Type 0} (s t : State V) (admitted : Admitted s) (within : s.taken ≤ s.sizes.places) (agent kwh : ℕ) (low : 1 ≤ agent) (high : agent ≤ s.sizes.agents) where
-  pub there : agent - 1 < length s.shortfalls
-  there = omega (arith, admitted.shortfalls)
-
+module _ {V : Type 0} (s t : State V) (admitted : Admitted s) (within : s.taken ≤ s.sizes.places) (agent kwh : ℕ) where
   pub noted : (k : Kind V) → Laws (joins k) → t.taken ≡ s.taken → t.sizes ≡ s.sizes → t.rows ≡ s.rows → t.shortfalls ≡ set s.shortfalls (agent - 1) kwh
-      → Settled k s.sizes s.taken agent kwh (contracts s) s.rows s.places t.places s.board t.board
+      → Settled k s.sizes s.taken agent (agent_shortfall t agent) (contracts s) s.rows s.places t.places s.board t.board
       → Noted k agent kwh s t
-  noted k laws taken sizes rows shortfalls settled =
-      let owed : kwh ≡ agent_shortfall t agent = sym (ap (λ (f : List ℕ). get_or f (agent - 1) 0) shortfalls ∙ get_or-set_same s.shortfalls (agent - 1) kwh 0 there) in
-      record {
-        rows = rows;
-        shortfalls = shortfalls;
-        settled = resettled k laws s t s.rows agent (contracts s) taken sizes (room s admitted within)
-            (λ i lt force. refl) (λ i lt force. ap (λ (rs : List ℕ). row_of s.sizes.hours rs i) (sym rows) ∙ ap (λ z. row_of z.hours t.rows i) (sym sizes))
-            (subst (λ (n : ℕ). Settled k s.sizes s.taken agent n (contracts s) s.rows s.places t.places s.board t.board) owed settled);
-      }
+  noted k laws taken sizes rows shortfalls settled = record {
+    rows = rows;
+    shortfalls = shortfalls;
+    settled = resettled k laws s t s.rows agent (contracts s) taken sizes (room s admitted within)
+        (λ i lt force. refl) (λ i lt force. ap (λ (rs : List ℕ). row_of s.sizes.hours rs i) (sym rows) ∙ ap (λ z. row_of z.hours t.rows i) (sym sizes)) settled;
+  }

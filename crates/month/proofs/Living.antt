@@ -13,8 +13,9 @@ use Rattle.ledger.specs.Lives.{Lived}
 use Rattle.ledger.specs.Past.{Event, ledger, position_in}
 use Rattle.ledger.specs.States.{State}
 use Rattle.ledger.proofs.Law.{lives_balance}
+use Rattle.ledger.proofs.Numbers.{first_none as passed, unless_none as held}
 use Rattle.month.specs.Questions.{entry_index, InEveryLife}
-use Rattle.month.proofs.Checked.{passed, held, within}
+use Rattle.month.proofs.Checked.{within}
 use Rattle.month.proofs.Entries.{entry_within}
 
 -- what a position that was not refused lies within
@@ -49,22 +50,6 @@ module _ {V : Type 0} (k : Kind V) {E : Type 0} (value : E → V) (sizes : Sizes
       ∙ ap (λ (z : Sizes). get_or s.board (entry_index z agent submarket hour) k.nothing) (sym same)
 
   -- so what holds of the position in every life holds of the entry that was answered
-  pub answered : (P : E → List Event → Type 0)
-      → ((e : E) → Placed sizes (length board) agent submarket hour → (past : List Event) (s : State V) → Lived k past s → s.sizes ≡ sizes → value e ≡ position_of k s agent submarket hour → P e past)
-      → (r : Result E Fault) → refusal_of r ≡ position_refusal sizes (length board) agent submarket hour → IfOk r (λ e. e ≡ get_or board (entry_index sizes agent submarket hour) e)
-      → IfOk r (λ e. InEveryLife k sizes (map value board) (P e))
-  answered P so (Ok e) a is = λ past s lived same on.
-      let p = placed sizes (length board) agent submarket hour a in so e p past s lived same (read e p is s same on)
-  answered P so (Err f) a is = tt
-
-  pub position_lived : Laws (joins k) → (r : Result E Fault) → refusal_of r ≡ position_refusal sizes (length board) agent submarket hour
-      → IfOk r (λ e. e ≡ get_or board (entry_index sizes agent submarket hour) e)
-      → IfOk r (λ e. InEveryLife k sizes (map value board) (λ past. value e ≡ position_in k (ledger past) agent submarket hour))
-  position_lived laws = answered (λ e past. value e ≡ position_in k (ledger past) agent submarket hour) (λ e p past s lived same is.
-      is ∙ (lives_balance k laws past s lived).positions agent submarket hour p.agent_in.0 (rw same p.agent_in.1) p.submarket_in.0 p.submarket_in.1 p.hour_in.0 (rw same p.hour_in.1))
-
--- the same where an entry was answered
-module _ {V : Type 0} (k : Kind V) {E : Type 0} (value : E → V) (sizes : Sizes) (board : List E) (agent submarket hour : ℕ) where
   pub lived_at : (e : E) → None ≡ position_refusal sizes (length board) agent submarket hour → e ≡ get_or board (entry_index sizes agent submarket hour) e
       → (P : List Event → Type 0)
       → ((past : List Event) (s : State V) → Lived k past s → 1 ≤ agent → agent ≤ s.sizes.agents → 1 ≤ submarket → submarket ≤ 4 → 1 ≤ hour → hour ≤ s.sizes.hours
@@ -73,7 +58,15 @@ module _ {V : Type 0} (k : Kind V) {E : Type 0} (value : E → V) (sizes : Sizes
   lived_at e a is P so past s lived same on =
       let p = placed sizes (length board) agent submarket hour a in
       so past s lived p.agent_in.0 (rw same p.agent_in.1) p.submarket_in.0 p.submarket_in.1 p.hour_in.0 (rw same p.hour_in.1)
-      (read k value sizes board agent submarket hour e p is s same on)
+      (read e p is s same on)
+
+  pub position_lived : Laws (joins k) → (r : Result E Fault) → refusal_of r ≡ position_refusal sizes (length board) agent submarket hour
+      → IfOk r (λ e. e ≡ get_or board (entry_index sizes agent submarket hour) e)
+      → IfOk r (λ e. InEveryLife k sizes (map value board) (λ past. value e ≡ position_in k (ledger past) agent submarket hour))
+  position_lived laws (Ok e) a is =
+      lived_at e a is (λ past. value e ≡ position_in k (ledger past) agent submarket hour)
+      (λ past s lived a1 aa m1 m4 h1 hh at. at ∙ (lives_balance k laws past s lived).positions agent submarket hour a1 aa m1 m4 h1 hh)
+  position_lived laws (Err f) a is = tt
 
 -- what a joined entry that was not refused lies within
 pub spotted : (sizes : Sizes) (n submarket hour : ℕ) → None ≡ balance_refusal sizes n submarket hour

@@ -1,5 +1,5 @@
 -- The row of a contract that can be supplied, and the state of the month once it is written.
-use Rattle.std.proofs.Common.{◌≡◌, ℕ, ◌+◌, ◌-◌, ◌*◌, ◌≤◌, eqb, List, [], ◌∷◌, ◌++◌, length, take, None, Ok, Err, Result, sym, ap, ◌∙◌, arith, MatchResult}
+use Rattle.std.proofs.Common.{◌≡◌, ℕ, ◌+◌, ◌-◌, ◌*◌, ◌≤◌, eqb, List, [], ◌∷◌, ◌++◌, length, take, None, Ok, Err, IsOk, Result, refl, sym, ap, ◌∙◌, arith, MatchResult}
 use borrow.Rule.Slice.PartMut.{Post-is, put_mid}
 use Rattle.std.proofs.lemmas.Bool.{eqb-true}
 use Rattle.scale.specs.declared.fault.Fault.{Fault}
@@ -12,7 +12,7 @@ use Rattle.scale.proofs.Totals.{share_fine}
 use Rattle.book.specs.declared.contract.Terms.{Terms}
 use Rattle.book.specs.Supply.{supply_check}
 use Rattle.ledger.specs.Calls.{put_row, rounding}
-use Rattle.month.proofs.Checked.{held, passed}
+use Rattle.ledger.proofs.Numbers.{first_none as passed, unless_none as held}
 
 -- what a supply that was not refused is
 pub record Supply (hours : ℕ) (t : Terms) (weights : List ℕ) : Type 0 where
@@ -33,10 +33,14 @@ pub share_passes : (hours n : ℕ) (t : Terms) (weights : List ℕ) → Supply h
 share_passes hours n t weights s low e =
     sym (share_fine t.amount n (clipped t.first t.last weights) low (e ∙ sym (length_clipped_from 1 t.first t.last weights ∙ s.long)) (sym s.weighs))
 
-pub shared_row : {X : Type 0} (q n : ℕ) (ws row before : List ℕ) (r : Result X Fault) → share_check q n ws ≡ None → refusal_of r ≡ share_check q n ws
+pub shares : {X : Type 0} (r : Result X Fault) → refusal_of r ≡ None → IsOk r
+shares (Ok x) none = refl
+shares (Err f) none = absurd (let z : ◌≡◌ {A = ℕ} 0 1 = cc in omega arith)
+
+pub shared_row : {X : Type 0} (q : ℕ) (ws row before : List ℕ) (r : Result X Fault) → refusal_of r ≡ None
     → MatchResult r (λ _. Shared down_to q ws row) (λ _. row ≡ before) → row ≡ shares_of rounding q ws
-shared_row q n ws row before (Ok x) none e s = s.parts
-shared_row q n ws row before (Err f) none e s = absurd (let z : ◌≡◌ {A = ℕ} 0 1 = cc in omega arith)
+shared_row q ws row before (Ok x) none s = s.parts
+shared_row q ws row before (Err f) none s = absurd (let z : ◌≡◌ {A = ℕ} 0 1 = cc in omega arith)
 
 -- the row written where the code lends it
 pub row_put : (hours index : ℕ) (rows row : List ℕ) → put_mid (index * hours) (index * hours + hours - index * hours) rows row ≡ put_row hours index row rows

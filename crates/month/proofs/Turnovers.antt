@@ -11,12 +11,7 @@ use Rattle.entry.proofs.Totals.{up_same}
 use Rattle.entry.specs.Wrap.{both_laws}
 use Rattle.book.specs.declared.contract.Contract.{Contract}
 use Rattle.book.specs.Terms.{blank}
-use Rattle.ledger.specs.Past.{ledger}
-use Rattle.ledger.specs.States.{State, contracts}
-use Rattle.ledger.specs.Turnovers.{amount_sold, amount_bought, OfEveryLife}
-use Rattle.ledger.proofs.Told.{turnover_told}
-use Rattle.month.specs.Line.{certificate_line}
-use Rattle.month.specs.Questions.{sold_in, bought_in, sold, bought, certified}
+use Rattle.month.specs.Questions.{sold_in, bought_in, sold, bought}
 
 abbrev pub part : ℕ → Contract → Turnover
 part agent c = record { sold = sold_in agent c; bought = bought_in agent c }
@@ -76,10 +71,3 @@ module _ (agent : ℕ) (taken : List Contract) (parts : List Turnover) (filled :
       → turnover_value r ≡ up_to both_joins (length taken) (λ k. get_or (map turnover_value parts) (0 + k * 1) no_words)
       → (r.sold ≡ sold agent taken) × (r.bought ≡ bought agent taken)
   turned_over r s b e = turnover_exact r (sold agent taken) (bought agent taken) s b (omega (arith, sold_most)) (omega (arith, bought_most)) (e ∙ sums)
-
--- the line certifies, in every life, what the ledger says
-pub certified_told : {V : Type 0} (s : State V) (agent : ℕ) →
-    OfEveryLife s (λ past. certified s agent ≡ certificate_line agent (amount_sold (ledger past) agent) (amount_bought (ledger past) agent))
-certified_told s agent k laws past life =
-    ap (λ (n : ℕ). certificate_line agent n (bought agent (contracts s))) (turnover_told s (λ o. o.seller) agent k laws past life)
-    ∙ ap (certificate_line agent (amount_sold (ledger past) agent)) (turnover_told s (λ o. o.buyer) agent k laws past life)

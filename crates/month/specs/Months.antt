@@ -5,6 +5,7 @@ use Rattle.entry.specs.Kinds.{values}
 use Rattle.book.specs.declared.contract.Contract.{Contract}
 use Rattle.book.specs.Sound.{SoundBook}
 use Rattle.ledger.specs.States.{State, contracts}
+use Rattle.month.specs.declared.memories.Memories.{Memories}
 use Rattle.month.specs.declared.phase.Month.{Month}
 
 abbrev pub state_of : {E P : Type 0} (j : joining.Ghosts E) → Month P → List Contract → List ℕ → List ℕ → List E → State j.Value
@@ -16,6 +17,10 @@ state_of j m places rows shortfalls board = record {
   shortfalls = shortfalls;
   board = values j board;
 }
+
+-- the same where the four are lent for reading
+abbrev pub lent : {E P : Type 0} (j : joining.Ghosts E) → Month P → Memories E → State j.Value
+lent j m l = state_of j m l.places.now l.rows.now l.shortfalls.now l.board.now
 
 -- memories that a call goes on with: as long as they must be, and a sound book
 pub record Admitted {V : Type 0} (s : State V) : Type 0 where

@@ -3,5 +3,6 @@
 
 mod lengths;
 mod line;
+pub mod memories;
 pub mod phase;
 mod turnover;

@@ -4,6 +4,7 @@ ghost use Rattle.book.specs.Terms.{blank};
 ghost use Rattle.month.specs.Questions.{sold_in, bought_in, sold as sold_of, bought as bought_of};
 
 use book::contract::Contract;
+use entry::joining::Joining;
 use entry::kinds::Turnover;
 use entry::total::total;
 
@@ -12,19 +13,16 @@ fn turnover_in(contract: &Contract, agent: u16) -> Turnover
     ensures sold { result.sold ≡ sold_in agent contract.now }
     ensures bought { result.bought ≡ bought_in agent contract.now }
 {
-    let effective = contract.effective as u64;
-    let in_force = contract.in_force();
+    let amount_if = |party: bool| {
+        if contract.in_force() && party {
+            u64::from(contract.effective)
+        } else {
+            0
+        }
+    };
     Turnover {
-        sold: if in_force && contract.terms.seller == agent {
-            effective
-        } else {
-            0
-        },
-        bought: if in_force && contract.terms.buyer == agent {
-            effective
-        } else {
-            0
-        },
+        sold: amount_if(contract.terms.seller == agent),
+        bought: amount_if(contract.terms.buyer == agent),
     }
 }
 
@@ -36,7 +34,8 @@ pub(crate) fn turnover_over(taken: &[Contract], agent: u16) -> Turnover
     ensures bought { result.bought ≡ bought_of agent taken.now }
     ensures most { (result.sold ≤ 256000000000) × (result.bought ≤ 256000000000) }
 {
-    let mut parts = [Turnover { sold: 0, bought: 0 }; 256];
+    // By index: after a loop over `parts.iter_mut().zip(taken)` a proof knows no more of `parts` than its length.
+    let mut parts = [Turnover::empty(); 256];
     for (i, contract) in taken.iter().enumerate() {
         parts[i] = turnover_in(contract, agent);
     }

@@ -1,25 +1,33 @@
 // The four memories, and what a host may do to them between calls.
+use crate::order::Step;
 use crate::script::Line;
 use book::contract::{BLANK, Class, Contract, State};
 use entry::kinds::{BySource, Net};
 use entry::source::Source;
+use month::memories::Memories;
 use month::phase::{Month, Open};
 use scale::fault::Fault;
 use std::alloc::{AllocError, Global};
-
-// Told of a refusal that moved something.
-pub const MOVED: (u16, usize) = (99, 99);
 
 // The memories of a month, and a board of the other kind. They begin with something in them, so that nothing passes for untouched
 // that was cleared.
 #[derive(Drop)]
 pub struct Host {
-    heap: Global,
+    pub heap: Global,
     pub places: Vec<Contract>,
     pub rows: Vec<u32>,
     pub owed: Vec<u64>,
     pub board: Vec<Net>,
     pub by_source: Vec<BySource>,
+}
+
+// What the four memories of a month held.
+#[derive(PartialEq, Eq, Drop)]
+pub struct Held {
+    places: Vec<Contract>,
+    rows: Vec<u32>,
+    owed: Vec<u64>,
+    board: Vec<i64>,
 }
 
 const LEFT: Net = Net { units: 5 };
@@ -29,26 +37,24 @@ const LEFT_BY_SOURCE: BySource = BySource {
     incentivised: 7,
 };
 
-// Mixes a number into a mark, so that a change of one number changes the mark.
-fn mix(mark: u64, number: u64) -> u64 {
-    mark.wrapping_mul(0x9e37_79b9_7f4a_7c15)
-        .wrapping_add(number)
+// Whether a memory becomes longer or shorter.
+#[derive(Clone, Copy, PartialEq, Eq, Debug)]
+enum Change {
+    Longer,
+    Shorter,
 }
 
-fn mark_of(contract: &Contract) -> u64 {
-    let terms = contract.terms.fields();
-    let mut mark = mix(u64::from(terms.number), u64::from(terms.seller));
-    mark = mix(
-        mix(mark, u64::from(terms.buyer)),
-        u64::from(terms.submarket),
-    );
-    mark = mix(mix(mark, u64::from(terms.class)), u64::from(terms.source));
-    mark = mix(mix(mark, u64::from(terms.first)), u64::from(terms.last));
-    mark = mix(
-        mix(mark, u64::from(terms.amount)),
-        u64::from(contract.effective),
-    );
-    mix(mark, u64::from(contract.state as u8))
+impl Change {
+    // One element more at the end of a memory, or one less.
+    fn make<T: Drop>(self, memory: &mut Vec<T>, element: T) -> Result<(), AllocError> {
+        match self {
+            Change::Longer => memory.push(element)?,
+            Change::Shorter => {
+                let _ = memory.pop();
+            }
+        }
+        Ok(())
+    }
 }
 
 impl Host {
@@ -68,30 +74,28 @@ impl Host {
         })
     }
 
-    // A mark of all that the four memories hold.
-    pub fn mark(&self) -> u64 {
-        let mut mark: u64 = 1;
-        for contract in self.places.iter() {
-            mark = mix(mark, mark_of(contract));
-        }
-        for number in self.rows.iter() {
-            mark = mix(mark, u64::from(*number));
-        }
-        for number in self.owed.iter() {
-            mark = mix(mark, *number);
-        }
-        for entry in self.board.iter() {
-            mark = mix(mark, entry.units.cast_unsigned());
-        }
-        mark
+    // What the four memories hold.
+    pub fn held(&self) -> Result<Held, AllocError> {
+        Ok(Held {
+            places: self.places.clone()?,
+            rows: self.rows.clone()?,
+            owed: self.owed.clone()?,
+            board: self
+                .board
+                .iter()
+                .map(|entry| entry.units)
+                .collect(self.heap)?,
+        })
     }
 
-    // What a refusal tells, or that it moved something.
-    pub fn told(&self, before: u64, fault: &Fault) -> (u16, usize) {
-        if self.mark() != before {
-            return MOVED;
+    // The four memories, lent for a question.
+    pub fn memories(&self) -> Memories<'_, Net> {
+        Memories {
+            places: self.places.as_slice(),
+            rows: self.rows.as_slice(),
+            shortfalls: self.owed.as_slice(),
+            board: self.board.as_slice(),
         }
-        (fault.reason.number(), fault.spot)
     }
 
     pub fn open(&mut self, agents: u16, hours: u16, size: u16) -> Result<Month<Open>, Fault> {
@@ -106,98 +110,67 @@ impl Host {
         )
     }
 
-    // One element more at the end of the memory of a spot.
-    fn lengthen(&mut self, spot: u16) -> Result<(), AllocError> {
+    // Changes the memory of a spot: the number that a refusal of its length tells. Each memory has elements of its own type, so no list holds them.
+    fn resize(&mut self, spot: u16, change: Change) -> Result<(), AllocError> {
         match spot {
-            1 => self.places.push(BLANK)?,
-            2 => self.rows.push(3)?,
-            3 => self.owed.push(4)?,
-            4 => self.board.push(LEFT)?,
-            _ => self.by_source.push(LEFT_BY_SOURCE)?,
-        }
-        Ok(())
-    }
-
-    // One element less.
-    fn shorten(&mut self, spot: u16) {
-        match spot {
-            1 => {
-                let _ = self.places.pop();
-            }
-            2 => {
-                let _ = self.rows.pop();
-            }
-            3 => {
-                let _ = self.owed.pop();
-            }
-            4 => {
-                let _ = self.board.pop();
-            }
-            _ => {
-                let _ = self.by_source.pop();
-            }
+            1 => change.make(&mut self.places, BLANK),
+            2 => change.make(&mut self.rows, 3),
+            3 => change.make(&mut self.owed, 4),
+            4 => change.make(&mut self.board, LEFT),
+            _ => change.make(&mut self.by_source, LEFT_BY_SOURCE),
         }
     }
 
-    // Does what a line says that is no call. False where it is a call.
-    //   G agents hours places   new memories
-    //   + spot, - spot          one element more or less (1 places, 2 rows, 3 shortfalls, 4 board, 5 the board by source)
-    //   X place field value     writes a field of a contract record, 1 to 11
-    //   R index value           writes a number of the rows, from 0
-    //   D agent value           writes a shortfall
-    pub fn handle(&mut self, line: &Line) -> Result<bool, AllocError> {
-        match line.letter {
-            b'G' => *self = Host::new(self.heap, line.short(0), line.short(1), line.short(2))?,
-            b'+' => self.lengthen(line.short(0))?,
-            b'-' => self.shorten(line.short(0)),
-            b'X' => {
-                if let Some(contract) = self.places.get_mut(line.index(0).wrapping_sub(1)) {
-                    write_field(contract, line.short(1), line);
+    // Does what a line says that is no call.
+    pub fn prepare(&mut self, step: Step, line: &Line) -> Result<(), AllocError> {
+        match step {
+            Step::Renew => {
+                *self = Host::new(self.heap, line.number(0), line.number(1), line.number(2))?;
+            }
+            Step::Lengthen => self.resize(line.number(0), Change::Longer)?,
+            Step::Shorten => self.resize(line.number(0), Change::Shorter)?,
+            Step::WriteField => {
+                let place = line.number::<usize>(0).wrapping_sub(1);
+                if let Some(contract) = self.places.get_mut(place) {
+                    write_field(contract, line);
                 }
             }
-            b'R' => {
-                if let Some(number) = self.rows.get_mut(line.index(0)) {
-                    *number = line.wide(1);
-                }
-            }
-            b'D' => {
-                if let Some(number) = self.owed.get_mut(line.index(0).wrapping_sub(1)) {
+            Step::WriteRow => {
+                if let Some(number) = self.rows.get_mut(line.number(0)) {
                     *number = line.number(1);
                 }
             }
-            _ => return Ok(false),
+            Step::WriteShortfall => {
+                let agent = line.number::<usize>(0).wrapping_sub(1);
+                if let Some(number) = self.owed.get_mut(agent) {
+                    *number = line.number(1);
+                }
+            }
         }
-        Ok(true)
+        Ok(())
     }
 }
 
-fn write_field(contract: &mut Contract, field: u16, line: &Line) {
-    let short = line.short(2);
+// Writes the field that a line names by its place among the nine terms, the effective amount and the state. Each field has a type of
+// its own, so no table would be shorter.
+fn write_field(contract: &mut Contract, line: &Line) {
     let terms = &mut contract.terms;
-    match field {
-        1 => terms.number = short,
-        2 => terms.seller = short,
-        3 => terms.buyer = short,
-        4 => terms.submarket = short,
-        5 => terms.class = class_of(short),
+    match line.number::<u16>(1) {
+        1 => terms.number = line.number(2),
+        2 => terms.seller = line.number(2),
+        3 => terms.buyer = line.number(2),
+        4 => terms.submarket = line.number(2),
+        5 => terms.class = Class::try_from(line.number::<u16>(2)).unwrap_or(Class::Plant),
         6 => terms.source = Source::Incentivised,
-        7 => terms.first = short,
-        8 => terms.last = short,
-        9 => terms.amount = line.wide(2),
-        10 => contract.effective = line.wide(2),
-        _ => contract.state = state_of(short),
+        7 => terms.first = line.number(2),
+        8 => terms.last = line.number(2),
+        9 => terms.amount = line.number(2),
+        10 => contract.effective = line.number(2),
+        _ => contract.state = state_of(line.number(2)),
     }
 }
 
-fn class_of(number: u16) -> Class {
-    match number {
-        1 => Class::Free,
-        2 => Class::Retail,
-        3 => Class::Regulated,
-        _ => Class::Plant,
-    }
-}
-
+// The state that a line writes; only the script numbers states.
 fn state_of(number: u16) -> State {
     match number {
         1 => State::Offered,

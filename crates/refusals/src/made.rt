@@ -1,167 +1,165 @@
 // The calls that lines stand for.
-use crate::host::{Host, MOVED};
+use crate::host::Host;
+use crate::order::{BoardQuestion, Call, Change, Question};
 use crate::script::Line;
+use crate::told::Told;
+use anyhow::bail;
 use book::contract::Offer;
+use entry::kinds::{BySource, Net};
 use month::phase::{Closed, Month, Open};
 use scale::fault::Fault;
 use scale::row::RowScale;
 
-fn offer_of(line: &Line) -> Offer {
-    Offer {
-        number: line.short(0),
-        seller: line.short(1),
-        buyer: line.short(2),
-        submarket: line.short(3),
-        class: line.short(4),
-        source: line.short(5),
-        first: line.short(6),
-        last: line.short(7),
-        amount: line.wide(8),
+impl From<&Line> for Offer {
+    fn from(line: &Line) -> Offer {
+        Offer {
+            number: line.number(0),
+            seller: line.number(1),
+            buyer: line.number(2),
+            submarket: line.number(3),
+            class: line.number(4),
+            source: line.number(5),
+            first: line.number(6),
+            last: line.number(7),
+            amount: line.number(8),
+        }
     }
 }
 
 // What an answer tells, whatever it carries.
 fn only<T: Drop>(answer: Result<T, Fault>) -> Result<(), Fault> {
-    match answer {
-        Ok(_) => Ok(()),
-        Err(fault) => Err(fault),
-    }
+    answer.map(|_| ())
 }
 
 impl Host {
-    fn offer(&mut self, month: &mut Month<Open>, offer: Offer) -> Result<(), Fault> {
+    fn offer(&mut self, month: &mut Month<Open>, line: &Line) -> Result<(), Fault> {
         month.offer(
             self.places.as_mut_slice(),
             self.rows.as_slice(),
             self.owed.as_slice(),
             self.board.as_slice(),
-            offer,
+            Offer::from(line),
         )
     }
 
-    // Confirms on the row scale of the line's weights, those after number and agent.
-    fn confirm(&mut self, month: &Month<Open>, line: &Line) -> Result<(), Fault> {
-        let mut weights = [0u32; 8];
-        for (i, weight) in weights.iter_mut().enumerate() {
-            *weight = line.wide(i.wrapping_add(2));
-        }
-        let scale = RowScale::new(&weights[0..line.given().saturating_sub(2).min(8)]);
+    // Confirms on the row scale of weights.
+    fn confirm(&mut self, month: &Month<Open>, line: &Line, weights: &[u32]) -> Result<(), Fault> {
         month.confirm(
             self.places.as_mut_slice(),
             self.rows.as_mut_slice(),
             self.owed.as_slice(),
             self.board.as_mut_slice(),
-            line.short(0),
-            line.short(1),
-            &scale,
+            line.number(0),
+            line.number(1),
+            &RowScale::new(weights),
         )
     }
 
-    fn end(&mut self, month: &Month<Open>, number: u16, agent: u16) -> Result<(), Fault> {
+    fn end(&mut self, month: &Month<Open>, line: &Line) -> Result<(), Fault> {
         month.end(
             self.places.as_mut_slice(),
             self.rows.as_slice(),
             self.owed.as_slice(),
             self.board.as_mut_slice(),
-            number,
-            agent,
+            line.number(0),
+            line.number(1),
         )
     }
 
-    fn tell(&mut self, month: &Month<Open>, agent: u16, kwh: u64) -> Result<(), Fault> {
+    fn tell(&mut self, month: &Month<Open>, line: &Line) -> Result<(), Fault> {
         month.tell(
             self.places.as_mut_slice(),
             self.rows.as_slice(),
             self.owed.as_mut_slice(),
             self.board.as_mut_slice(),
-            agent,
-            kwh,
+            line.number(0),
+            line.number(1),
         )
     }
 
     // A question on all four memories.
-    fn ask<P>(&self, month: &Month<P>, line: &Line) -> Result<(), Fault> {
-        let places = self.places.as_slice();
-        let rows = self.rows.as_slice();
-        let owed = self.owed.as_slice();
-        let board = self.board.as_slice();
-        match line.letter {
-            b'F' => only(month.lookup(places, rows, owed, board, line.short(0))),
-            b'Q' => only(month.quantity(places, rows, owed, board, line.short(0), line.short(1))),
-            _ => only(month.turnover(places, rows, owed, board, line.short(0))),
+    fn ask<P>(&self, month: &Month<P>, question: Question, line: &Line) -> Result<(), Fault> {
+        let lent = self.memories();
+        match question {
+            Question::Lookup => only(month.lookup(lent, line.number(0))),
+            Question::Quantity => only(month.quantity(lent, line.number(0), line.number(1))),
+            Question::Turnover => only(month.turnover(lent, line.number(0))),
         }
     }
 
     // A question on the board, of one kind or the other.
-    fn ask_board<P>(&self, month: &Month<P>, line: &Line) -> Result<(), Fault> {
+    fn ask_board<P>(
+        &self,
+        month: &Month<P>,
+        question: BoardQuestion,
+        line: &Line,
+    ) -> Result<(), Fault> {
         let board = self.board.as_slice();
-        let (a, b, c) = (line.short(0), line.short(1), line.short(2));
-        match line.letter {
-            b'P' => only(month.position(board, a, b, c)),
-            b'N' => only(month.net_position(board, a, b, c)),
-            b'Y' => only(month.position_by_source(self.by_source.as_slice(), a, b, c)),
-            _ => only(month.balance(board, a, b)),
-        }
-    }
-
-    // A question of either sort.
-    fn question<P>(&self, month: &Month<P>, line: &Line) -> Result<(), Fault> {
-        match line.letter {
-            b'F' | b'Q' | b'T' => self.ask(month, line),
-            _ => self.ask_board(month, line),
-        }
-    }
-
-    // Makes a call of an open month: what it tells, zeros where it is accepted.
-    //   O the nine terms; C number agent weights; E number agent; S agent kWh
-    //   F number: lookup; Q number hour: quantity; T agent: turnover; B submarket hour: balance
-    //   P, N, Y agent submarket hour: position, net position, position by source
-    pub fn call(&mut self, month: &mut Month<Open>, line: &Line) -> (u16, usize) {
-        let before = self.mark();
-        let answer = match line.letter {
-            b'O' => self.offer(month, offer_of(line)),
-            b'C' => self.confirm(month, line),
-            b'E' => self.end(month, line.short(0), line.short(1)),
-            b'S' => self.tell(month, line.short(0), line.number(1)),
-            _ => self.question(month, line),
-        };
-        match answer {
-            Ok(()) => (0, 0),
-            Err(fault) => self.told(before, &fault),
-        }
-    }
-
-    // A certificate line on a page of so many bytes: what it tells, or that a refusal wrote on the page.
-    fn certificate(&self, month: &Month<Closed>, agent: u16, room: usize) -> (u16, usize) {
-        let mut page = [b'#'; 65];
-        let answer = month.certificate(
-            self.places.as_slice(),
-            self.rows.as_slice(),
-            self.owed.as_slice(),
-            self.board.as_slice(),
-            agent,
-            &mut page[0..room.min(65)],
-        );
-        match answer {
-            Ok(_) => (0, 0),
-            Err(fault) => {
-                if page == [b'#'; 65] {
-                    (fault.reason.number(), fault.spot)
-                } else {
-                    MOVED
-                }
+        let by_source = self.by_source.as_slice();
+        let (a, b, c) = (line.number(0), line.number(1), line.number(2));
+        match question {
+            BoardQuestion::Position => only(month.position(board, a, b, c)),
+            BoardQuestion::NetPosition => only(month.true_position::<Net>(board, a, b, c)),
+            BoardQuestion::PositionBySource => {
+                only(month.true_position::<BySource>(by_source, a, b, c))
             }
+            BoardQuestion::Balance => only(month.balance(board, a, b)),
         }
     }
 
-    // Makes a call of a closed month: W agent bytes, a certificate line; or a question.
-    pub fn call_closed(&self, month: &Month<Closed>, line: &Line) -> (u16, usize) {
-        if line.letter == b'W' {
-            return self.certificate(month, line.short(0), line.index(1));
-        }
-        match self.question(month, line) {
-            Ok(()) => (0, 0),
-            Err(fault) => (fault.reason.number(), fault.spot),
-        }
+    fn change(
+        &mut self,
+        month: &mut Month<Open>,
+        change: Change,
+        line: &Line,
+    ) -> anyhow::Result<Result<(), Fault>> {
+        Ok(match change {
+            Change::Offer => self.offer(month, line),
+            Change::Confirm => {
+                let weights = line.weights(self.heap)?;
+                self.confirm(month, line, weights.as_slice())
+            }
+            Change::End => self.end(month, line),
+            Change::Tell => self.tell(month, line),
+        })
+    }
+
+    // Makes a call of an open month, and says what it is told.
+    pub fn call(
+        &mut self,
+        month: &mut Month<Open>,
+        call: Call,
+        line: &Line,
+    ) -> anyhow::Result<Told> {
+        let before = self.held()?;
+        let answer = match call {
+            Call::Change(change) => self.change(month, change, line)?,
+            Call::Ask(question) => self.ask(month, question, line),
+            Call::AskBoard(question) => self.ask_board(month, question, line),
+            Call::Open | Call::Certify => bail!("no call of an open month"),
+        };
+        Ok(Told::from(answer).unless_moved(self.held()? != before))
+    }
+
+    // A certificate line on a page of so many bytes, on which a refusal may write nothing.
+    fn certificate(&self, month: &Month<Closed>, agent: u16, room: usize) -> Told {
+        let mut page = [b'#'; 65];
+        let answer = month.certificate(self.memories(), agent, &mut page[0..room.min(65)]);
+        Told::from(only(answer)).unless_moved(page != [b'#'; 65])
+    }
+
+    // Makes a call of a closed month, and says what it is told.
+    pub fn call_closed(
+        &self,
+        month: &Month<Closed>,
+        call: Call,
+        line: &Line,
+    ) -> anyhow::Result<Told> {
+        Ok(match call {
+            Call::Ask(question) => Told::from(self.ask(month, question, line)),
+            Call::Certify => self.certificate(month, line.number(0), line.number(1)),
+            Call::AskBoard(question) => Told::from(self.ask_board(month, question, line)),
+            Call::Open | Call::Change(_) => bail!("no call of a closed month"),
+        })
     }
 }

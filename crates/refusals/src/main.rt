@@ -7,135 +7,144 @@
 
 mod host;
 mod made;
+mod order;
 mod script;
 mod tally;
+mod told;
 
-use anyhow::anyhow;
+use anyhow::bail;
 use host::Host;
 use month::phase::{Closed, Month, Open};
-use script::{Line, Script};
-use std::io::Read;
+use order::{Call, Order};
+use script::Line;
+use std::alloc::AllocError;
+use std::io;
+use std::slice::Iter;
 use tally::Tally;
+use told::Told;
 
-// More lines than a script has.
-const MANY: u32 = 100_000;
-
-// Holds what a line was told against what it says.
-fn judge(
-    rt: &HostRuntime,
-    tally: &mut Tally,
-    line: &Line,
-    told: (u16, usize),
-) -> anyhow::Result<()> {
-    tally.note(line.letter, told);
-    if told == line.wanted() {
-        return Ok(());
-    }
-    let at = line.at;
-    let (number, spot) = told;
-    println!(rt; "line {at}: told {number} {spot}")?;
-    Err(anyhow!("a line is told something else"))
+// The host whose memories the lines speak of, and the refusals met so far.
+#[derive(Drop)]
+struct Trial<'a> {
+    rt: &'a HostRuntime,
+    host: Host,
+    tally: Tally,
 }
 
-// The lines of an open month, up to K.
-fn live(
-    rt: &HostRuntime,
-    host: &mut Host,
-    month: &mut Month<Open>,
-    script: &mut Script,
-    tally: &mut Tally,
-) -> anyhow::Result<()> {
-    for _ in 0..MANY {
-        let line = script.next();
-        if line.letter == b'K' {
+impl<'a> Trial<'a> {
+    // Holds what a line was told against what it says.
+    fn judge(&mut self, call: Call, line: &Line, told: Told) -> anyhow::Result<()> {
+        self.tally.note(call, told)?;
+        if line.wanted == Some(told) {
             return Ok(());
         }
-        if !host.handle(&line)? {
-            let told = host.call(month, &line);
-            judge(rt, tally, &line, told)?;
-        }
+        let at = line.at;
+        println!(self.rt; "line {at}: told {told}")?;
+        bail!("a line is told something else")
     }
-    Err(anyhow!("a month is not closed"))
-}
 
-// The lines of a closed month, up to the dot; answers how many places must be taken.
-fn certify(
-    rt: &HostRuntime,
-    host: &mut Host,
-    month: &Month<Closed>,
-    script: &mut Script,
-    tally: &mut Tally,
-) -> anyhow::Result<u16> {
-    for _ in 0..MANY {
-        let line = script.next();
-        if line.letter == b'.' {
-            return Ok(line.short(0));
+    // The lines of an open month, up to K.
+    fn live(&mut self, month: &mut Month<Open>, lines: &mut Iter<'_, Line>) -> anyhow::Result<()> {
+        for line in lines.by_ref() {
+            match line.order {
+                Order::Prepare(step) => self.host.prepare(step, line)?,
+                Order::Call(call) => {
+                    let told = self.host.call(month, call, line)?;
+                    self.judge(call, line, told)?;
+                }
+                Order::Close => return Ok(()),
+                Order::Finish => break,
+            }
         }
-        if !host.handle(&line)? {
-            let told = host.call_closed(month, &line);
-            judge(rt, tally, &line, told)?;
-        }
+        bail!("a month is not closed")
     }
-    Err(anyhow!("a month has no end"))
-}
 
-// A month that was opened.
-fn go_through(
-    rt: &HostRuntime,
-    host: &mut Host,
-    mut month: Month<Open>,
-    script: &mut Script,
-    tally: &mut Tally,
-) -> anyhow::Result<()> {
-    let lived = live(rt, host, &mut month, script, tally);
-    let closed = month.close();
-    let places = certify(rt, host, &closed, script, tally);
-    let taken = closed.discard();
-    lived?;
-    if places? == taken {
-        return Ok(());
-    }
-    println!(rt; "{taken} places are taken")?;
-    Err(anyhow!("a refused offer took a place"))
-}
-
-// A line outside a month: memories, or an opening.
-fn begin(
-    rt: &HostRuntime,
-    host: &mut Host,
-    line: &Line,
-    script: &mut Script,
-    tally: &mut Tally,
-) -> anyhow::Result<()> {
-    if host.handle(line)? {
-        return Ok(());
-    }
-    let before = host.mark();
-    match host.open(line.short(0), line.short(1), line.short(2)) {
-        Ok(month) => {
-            let opened = judge(rt, tally, line, (0, 0));
-            let gone = go_through(rt, host, month, script, tally);
-            opened?;
-            gone
+    // The lines of a closed month, up to the dot; answers how many places must be taken.
+    fn certify(
+        &mut self,
+        month: &Month<Closed>,
+        lines: &mut Iter<'_, Line>,
+    ) -> anyhow::Result<u16> {
+        for line in lines.by_ref() {
+            match line.order {
+                Order::Prepare(step) => self.host.prepare(step, line)?,
+                Order::Call(call) => {
+                    let told = self.host.call_closed(month, call, line)?;
+                    self.judge(call, line, told)?;
+                }
+                Order::Close => break,
+                Order::Finish => return Ok(line.number(0)),
+            }
         }
-        Err(fault) => judge(rt, tally, line, host.told(before, &fault)),
+        bail!("a month has no end")
+    }
+
+    // A month that a line opened, up to its end.
+    fn go_through(
+        &mut self,
+        mut month: Month<Open>,
+        line: &Line,
+        rest: &[Line],
+    ) -> anyhow::Result<()> {
+        let mut lines = rest.iter();
+        let opened = self.judge(Call::Open, line, Told::Passed);
+        let lived = self.live(&mut month, &mut lines);
+        let closed = month.close();
+        let places = self.certify(&closed, &mut lines);
+        let taken = closed.discard();
+        opened?;
+        lived?;
+        if places? == taken {
+            return Ok(());
+        }
+        println!(self.rt; "{taken} places are taken")?;
+        bail!("a refused offer took a place")
+    }
+
+    // Opens a month, or says what the opening is told.
+    fn open(&mut self, line: &Line) -> Result<Result<Month<Open>, Told>, AllocError> {
+        let before = self.host.held()?;
+        match self
+            .host
+            .open(line.number(0), line.number(1), line.number(2))
+        {
+            Ok(month) => Ok(Ok(month)),
+            Err(fault) => {
+                let moved = self.host.held()? != before;
+                Ok(Err(Told::from(Err(fault)).unless_moved(moved)))
+            }
+        }
+    }
+
+    // The lines up to the end of a month: what comes before it, and the month.
+    fn part(&mut self, lines: &[Line]) -> anyhow::Result<()> {
+        for (before, line) in lines.iter().enumerate() {
+            match line.order {
+                Order::Prepare(step) => self.host.prepare(step, line)?,
+                Order::Call(Call::Open) => match self.open(line)? {
+                    Ok(month) => return self.go_through(month, line, &lines[before + 1..]),
+                    Err(told) => self.judge(Call::Open, line, told)?,
+                },
+                _ => bail!("a line stands outside a month"),
+            }
+        }
+        Ok(())
     }
 }
 
 fn run(rt: &HostRuntime) -> anyhow::Result<()> {
-    let mut text = Vec::new(rt.alloc());
-    rt.stdin().read_to_end(&mut text)?;
-    let mut script = Script::new(text.as_slice());
-    let mut host = Host::new(rt.alloc(), 2, 1, 1)?;
-    let mut tally = Tally::new();
-    for _ in 0..MANY {
-        let line = script.next();
-        if line.letter == 0 {
-            break;
-        }
-        begin(rt, &mut host, &line, &mut script, &mut tally)?;
+    let heap = rt.alloc();
+    let text = io::read_to_string(heap, rt.stdin())?;
+    let lines = script::read(heap, text.as_str())?;
+    let mut trial = Trial {
+        rt,
+        host: Host::new(heap, 2, 1, 1)?,
+        tally: Tally::new(heap),
+    };
+    for part in lines.split_inclusive(|line| line.order == Order::Finish) {
+        trial.part(part)?;
     }
-    tally.show(rt)
+    trial.tally.show(rt)
 }
 
 fn main(rt: HostRuntime) -> anyhow::Result<()> {

@@ -1,95 +1,39 @@
 // How often each refusal was met.
+use crate::order::Call;
+use crate::told::Told;
+use std::alloc::{AllocError, Global};
+use std::collections::BTreeMap;
 
-const LETTERS: [u8; 13] = *b"MOCESFQTWPNYB";
-
-// Spots above 9 are counted as 9; no script here meets one.
-const SPOTS: usize = 10;
-
-// Cells of a call: numbers 0 to 17, spots 0 to 9.
-const OF_CALL: usize = 180;
-
-const CELLS: usize = 2340;
-
+// The refusals by call, number and spot.
 #[derive(Drop)]
 pub struct Tally {
-    counts: [u32; CELLS],
+    refusals: BTreeMap<(Call, u16, usize), u32>,
     calls: u32,
 }
 
-fn name_of(letter: u8) -> &'static str {
-    match letter {
-        b'M' => "open",
-        b'O' => "offer",
-        b'C' => "confirm",
-        b'E' => "end",
-        b'S' => "tell",
-        b'F' => "lookup",
-        b'Q' => "quantity",
-        b'T' => "turnover",
-        b'W' => "certificate line",
-        b'P' => "position",
-        b'N' => "net position",
-        b'Y' => "position by source",
-        _ => "balance",
-    }
-}
-
-// Where the counts of a call begin.
-fn start_of(letter: u8) -> usize {
-    for i in 0..13usize {
-        if LETTERS[i] == letter {
-            return i * OF_CALL;
-        }
-    }
-    CELLS
-}
-
 impl Tally {
-    pub fn new() -> Tally {
+    pub fn new(heap: Global) -> Tally {
         Tally {
-            counts: [0; CELLS],
+            refusals: BTreeMap::new(heap),
             calls: 0,
         }
     }
 
-    pub fn note(&mut self, letter: u8, told: (u16, usize)) {
-        let (number, spot) = told;
-        let cell = usize::from(number)
-            .wrapping_mul(SPOTS)
-            .wrapping_add(spot.min(9));
-        if let Some(count) = self.counts.get_mut(start_of(letter).wrapping_add(cell)) {
+    pub fn note(&mut self, call: Call, told: Told) -> Result<(), AllocError> {
+        self.calls = self.calls.wrapping_add(1);
+        if let Told::Refused { number, spot } = told {
+            let count = self.refusals.entry((call, number, spot))?.or_insert(0);
             *count = count.wrapping_add(1);
         }
-        self.calls = self.calls.wrapping_add(1);
-    }
-
-    // Prints the refusals of one call.
-    fn show_call(&self, rt: &HostRuntime, letter: u8) -> anyhow::Result<u32> {
-        let name = name_of(letter);
-        let start = start_of(letter);
-        let mut met: u32 = 0;
-        for cell in SPOTS..OF_CALL {
-            let count = self
-                .counts
-                .get(start.wrapping_add(cell))
-                .copied()
-                .unwrap_or(0);
-            if count > 0 {
-                let number = cell / SPOTS;
-                let spot = cell % SPOTS;
-                println!(rt; "{name}: refused {number} at {spot}, {count} times")?;
-                met = met.wrapping_add(1);
-            }
-        }
-        Ok(met)
+        Ok(())
     }
 
     pub fn show(&self, rt: &HostRuntime) -> anyhow::Result<()> {
-        let mut met: u32 = 0;
-        for i in 0..13usize {
-            met = met.wrapping_add(self.show_call(rt, LETTERS[i])?);
+        for ((call, number, spot), count) in self.refusals.iter() {
+            println!(rt; "{call}: refused {number} at {spot}, {count} times")?;
         }
         let calls = self.calls;
+        let met = self.refusals.len();
         println!(rt;
             "{calls} calls were told what the script says, {met} different refusals among them"
         )?;

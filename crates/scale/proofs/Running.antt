@@ -1,7 +1,7 @@
 -- What every rounding rule has in common.
 use Rattle.std.proofs.Common.{◌≡◌, ℕ, zero, suc, ◌+◌, ◌-◌, ◌*◌, ◌<◌, ◌≤◌, ◌⊎◌, List, [], ◌∷◌, ◌++◌, length, get_or, take, drop, set, sum, sym, refl, ap, ◌∙◌, subst, inl, inr, add-zero, mul-le-mul_right, suc-mul, add-mul, mul-le-mul_left, mul-zero, zero-add, zero-mul, mul-add, div-mul-le_self, arith}
 use native.Mathlib.Nat.{lt_of_mul-lt-mul_left, lt-div-mul-add}
-use Rattle.std.proofs.lemmas.List.{take_all, drop_all, append-nil, append_assoc, take_more_set, drop_more}
+use Rattle.std.proofs.lemmas.List.{append_assoc, take_more_set, drop_more}
 use Rattle.std.proofs.lemmas.List.Sums.{sum_by-cons}
 use Rattle.std.proofs.lemmas.Bool.{cases_lt}
 use Rattle.scale.specs.Shares.{shared_by, down_to, Rule, Sound, RoundsWith, Shared, shares_of, stretch, Within, Running}
@@ -138,18 +138,6 @@ shared_step run ws out all i before w y h k e f inv =
     ∙ ap (λ v. take i out ++ (v ∷ shared_by run (before + w) (drop (i + 1) ws))) f
     ∙ ap (λ r. take i out ++ shared_by run before r) (sym b)
     ∙ inv
-
-pub shared_done : (run : ℕ → ℕ) (ws out all : List ℕ) (i before : ℕ) → length ws ≤ i → length out ≤ i →
-    take i out ++ shared_by run before (drop i ws) ≡ all → out ≡ all
-shared_done run ws out all i before h k inv =
-    sym (append-nil out)
-    ∙ ap (λ r. r ++ []) (sym (take_all i out k))
-    ∙ ap (λ r. take i out ++ shared_by run before r) (sym (drop_all i ws h))
-    ∙ inv
-
--- a part of a running total is at most the amount
-pub run_le : (q W : ℕ) (run : ℕ → ℕ) → Running q W run → (w : ℕ) → w ≤ W → run w ≤ q
-run_le q W run rule w h = omega (arith, run_rising q W run rule w W h, run_whole q W run rule)
 
 -- what a row that holds the shares is known to hold
 pub shared_row : (rule : Rule) → Sound rule → (q : ℕ) (ws row : List ℕ) → 1 ≤ sum ws → row ≡ shares_of rule q ws → Shared rule q ws row

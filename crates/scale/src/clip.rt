@@ -27,7 +27,7 @@ impl<S: Scale> Scale for Clip<'_, S> {
     }
 
     fn weight(&self, part: usize) -> u32 {
-        if part >= self.first && part <= self.last {
+        if (self.first..=self.last).contains(&part) {
             self.scale.weight(part)
         } else {
             0

@@ -24,7 +24,7 @@ impl Scale for EvenScale {
     }
 
     fn weight(&self, part: usize) -> u32 {
-        if part >= 1 && part <= self.parts {
+        if (1..=self.parts).contains(&part) {
             1
         } else {
             0

@@ -24,10 +24,9 @@ impl Scale for RowScale<'_> {
     }
 
     fn weight(&self, part: usize) -> u32 {
-        if part >= 1 && part <= self.row.len() {
-            self.row[part - 1]
-        } else {
-            0
-        }
+        part.checked_sub(1)
+            .and_then(|index| self.row.get(index))
+            .copied()
+            .unwrap_or(0)
     }
 }

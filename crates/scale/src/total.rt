@@ -16,12 +16,12 @@ pub fn total<S: Scale>(scale: &S) -> Result<u32, Fault>
     ensures law { Told (S.Scale.weights scale.now) }
 {
     let mut so_far: u32 = 0;
-    for i in 0..scale.length() {
-        let weight = scale.weight(i + 1);
+    for part in 1..=scale.length() {
+        let weight = scale.weight(part);
         if weight > MOST - so_far {
             return Err(Fault {
                 reason: Reason::ScaleHeavy,
-                spot: i + 1,
+                spot: part,
             });
         }
         so_far += weight;

@@ -1,6 +1,6 @@
+pub mod Fronts
 pub mod Staged
 pub mod Positions
-pub mod Opens
 pub mod Replies
 pub mod Stepping
 pub mod Living

@@ -1,5 +1,5 @@
 -- A stage from which no open month could be taken.
-use Rattle.std.proofs.Common.{◌≡◌, true, List, Some, Option, refl}
+use Rattle.std.proofs.Common.{◌≡◌, true, Some, Option, refl}
 use Rattle.scale.specs.Refusals.{Refusal}
 use Rattle.entry.specs.declared.joining.Joining as joining
 use Rattle.ledger.specs.States.{State}
@@ -11,11 +11,10 @@ use Rattle.session.specs.declared.stage.Stage.TheVariants.{Idle, Open, Closed}
 use Rattle.session.specs.Held.{Held, held_at, state_on}
 use Rattle.session.specs.Turns.{Doing, unfit}
 
--- no open month: the line is out of turn, and nothing changed
+-- no open month: the line is out of turn
 pub not_open : {E : Type 0} (j : joining.Ghosts E) (does : Held j.Value → Option Refusal → Held j.Value → Type 0)
     → ((s : State j.Value) → does (record { closed = true; state = s }) (Some unfit) (record { closed = true; state = s }))
-    → (d : Desk) (board : List E) (s : Stage) {u : Stage} → u ≡ s → ((m : Month opening.Open) → s ≡ Open m → ⊥)
-    → Doing does (held_at j d board s) (Some unfit) (held_at j d board u)
-not_open j does late d board Idle p no-open = rw p (refl, refl)
-not_open j does late d board (Open m) p no-open = absurd (no-open m refl)
-not_open j does late d board (Closed m) p no-open = rw p (_, refl, late (state_on j d board m))
+    → (d : Desk E) (s : Stage) → ((m : Month opening.Open) → s ≡ Open m → ⊥) → Doing does (held_at j d s) (Some unfit) (held_at j d s)
+not_open j does late d Idle no-open = (refl, refl)
+not_open j does late d (Open m) no-open = absurd (no-open m refl)
+not_open j does late d (Closed m) no-open = (_, refl, late (state_on j d m))

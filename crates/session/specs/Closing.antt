@@ -8,10 +8,10 @@ use Rattle.session.specs.declared.stage.Stage.{Stage}
 use Rattle.session.specs.declared.stage.Stage.TheVariants.{Idle, Open, Closed}
 use Rattle.session.specs.Turns.{Refused}
 
-abbrev pub with_stage : Stage → Desk → Desk
-with_stage s d = record { stage = s; lengths = d.lengths; places = d.places; rows = d.rows; shortfalls = d.shortfalls }
+abbrev pub with_stage : {E : Type 0} → Stage → Desk E → Desk E
+with_stage s d = record { stage = s; lengths = d.lengths; places = d.places; rows = d.rows; shortfalls = d.shortfalls; board = d.board }
 
-abbrev pub Shut : Stage → Desk → Option Refusal → Desk → Type 0
+abbrev pub Shut : {E : Type 0} → Stage → Desk E → Option Refusal → Desk E → Type 0
 Shut Idle d answer t = Refused d answer t
 Shut (Open m) d answer t = (answer ≡ None) × ((n : Month closed.Closed) × (n.sizes ≡ m.sizes) × (n.taken ≡ m.taken) × (t ≡ with_stage (Closed n) d))
 Shut (Closed m) d answer t = Refused d answer t

@@ -19,13 +19,13 @@ abbrev pub lent_to : {E P : Type 0} (j : joining.Ghosts E) → Month P → Lengt
 lent_to j m l places rows shortfalls board =
     state_of j m (take l.places places) (take l.rows rows) (take l.shortfalls shortfalls) (take l.entries board)
 
-abbrev pub state_on : {E P : Type 0} (j : joining.Ghosts E) → Desk → List E → Month P → State j.Value
-state_on j d board m = lent_to j m d.lengths d.places d.rows d.shortfalls board
+abbrev pub state_on : {E P : Type 0} (j : joining.Ghosts E) → Desk E → Month P → State j.Value
+state_on j d m = lent_to j m d.lengths d.places d.rows d.shortfalls d.board
 
-abbrev pub held_at : {E : Type 0} (j : joining.Ghosts E) → Desk → List E → Stage → Option (Held j.Value)
-held_at j d board Idle = None
-held_at j d board (Open m) = Some (record { closed = false; state = state_on j d board m })
-held_at j d board (Closed m) = Some (record { closed = true; state = state_on j d board m })
+abbrev pub held_at : {E : Type 0} (j : joining.Ghosts E) → Desk E → Stage → Option (Held j.Value)
+held_at j d Idle = None
+held_at j d (Open m) = Some (record { closed = false; state = state_on j d m })
+held_at j d (Closed m) = Some (record { closed = true; state = state_on j d m })
 
-abbrev pub held_of : {E : Type 0} (j : joining.Ghosts E) → Desk → List E → Option (Held j.Value)
-held_of j d board = held_at j d board d.stage
+abbrev pub held_of : {E : Type 0} (j : joining.Ghosts E) → Desk E → Option (Held j.Value)
+held_of j d = held_at j d d.stage

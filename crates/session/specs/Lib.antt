@@ -1,3 +1,4 @@
+pub mod Kinds
 pub mod Held
 pub mod Turns
 pub mod Questions

@@ -1,5 +1,6 @@
 -- A session as its month: none yet, or one of net entries, or one of entries by source.
-use Rattle.std.specs.Prelude.{◌≡◌, true, Some, None, Option, nat_eq}
+use Rattle.std.specs.Prelude.{◌≡◌, true, Some, None, Option, Ok, Err, Result, nat_eq}
+use Rattle.scale.specs.declared.fault.Fault.{Fault}
 use Rattle.entry.specs.declared.joining.Joining as joining
 use Rattle.entry.specs.declared.kinds.BySource.{BySource}
 use Rattle.entry.specs.declared.kinds.Net.{Net}
@@ -8,8 +9,9 @@ use Rattle.entry.specs.Words.{Word, word, plus, Words, no_words, plus_both}
 use Rattle.ledger.specs.Differences.{difference_in}
 use Rattle.lines.specs.declared.reply.Reply.TheVariants.{At, AtBySource}
 use Rattle.session.specs.declared.Session.{Session}
-use Rattle.session.specs.declared.kind.BoardKind.{BoardKind}
-use Rattle.session.specs.declared.kind.BoardKind.TheVariants as kind
+use Rattle.session.specs.declared.desk.any.AnyDesk.{AnyDesk}
+use Rattle.session.specs.declared.desk.any.AnyDesk.TheVariants as desk
+use Rattle.session.specs.declared.stage.Stage.{Stage}
 use Rattle.session.specs.Held.{Held, held_of}
 use Rattle.session.specs.Turns.{Showing}
 
@@ -42,9 +44,19 @@ by_source_showing = record {
   tells = λ b agent submarket hour. AtBySource (difference_in b (nat_eq 0) agent submarket hour) (difference_in b (nat_eq 1) agent submarket hour);
 }
 
-abbrev pub seen_by : BoardKind → Session → Seen
-seen_by kind.Net s = seen_as net (held_of net_entries s.desk s.net)
-seen_by kind.BySource s = seen_as by_source (held_of by_source_entries s.desk s.by_source)
+-- what a session's desk shows of its month
+abbrev pub seen_at : AnyDesk → Seen
+seen_at (desk.Net d) = seen_as net (held_of net_entries d)
+seen_at (desk.BySource d) = seen_as by_source (held_of by_source_entries d)
 
 abbrev pub seen : Session → Seen
-seen s = seen_by s.kind s
+seen s = seen_at s.desk
+
+-- what an opening shows: a refused one has no month
+abbrev pub seen_opened : Result AnyDesk Fault → Seen
+seen_opened (Ok d) = seen_at d
+seen_opened (Err f) = none
+
+abbrev pub stage_of : AnyDesk → Stage
+stage_of (desk.Net d) = d.stage
+stage_of (desk.BySource d) = d.stage

@@ -15,7 +15,7 @@ use Rattle.lines.specs.declared.command.Command.{Command}
 use Rattle.lines.specs.declared.command.Command.TheVariants.{Open, Offer, Confirm, End, Tell, Position, Close, Certificate}
 use Rattle.lines.specs.declared.reply.Reply.{Reply}
 use Rattle.lines.specs.declared.reply.Reply.TheVariants.{Done}
-use Rattle.lines.specs.Spoken.{spoken_line, refused}
+use Rattle.lines.specs.Spoken.{spoken_line, refused_line}
 use Rattle.month.specs.Line.{certificate_line}
 use Rattle.month.specs.Questions.{certified}
 use Rattle.page.specs.Page.{Fronted}
@@ -28,7 +28,7 @@ unfit = refusal 17 0
 -- what is replied to a call that is accepted or refused, and tells no more
 abbrev pub ack : Option Refusal → List ℕ
 ack None = spoken_line Done
-ack (Some f) = spoken_line (refused f)
+ack (Some f) = refused_line f
 
 -- out of turn: nothing changes
 abbrev pub Refused : {X : Type 0} → X → Option Refusal → X → Type 0
@@ -42,7 +42,7 @@ Doing does (Some h) answer after = (t : Held _) × (after ≡ Some t) × does h 
 -- a question: its refusal is replied, or the line that answers it
 abbrev pub Asked : Option Refusal → (List ℕ → Type 0) → List ℕ → Type 0
 Asked None Answers line = Answers line
-Asked (Some f) Answers line = line ≡ spoken_line (refused f)
+Asked (Some f) Answers line = line ≡ refused_line f
 
 -- Closing leaves all as it is, but that the month is closed.
 abbrev pub Closes : {V : Type 0} → Held V → Option Refusal → Held V → Type 0

@@ -4,20 +4,20 @@ ghost use Rattle.scale.specs.Refusals.{refusal_of};
 ghost use Rattle.lines.specs.Held.{Holds};
 ghost use Rattle.session.specs.Closing.{taken_at};
 ghost use Rattle.session.specs.Lives.{LivesOn};
-ghost use Rattle.session.specs.Seen.{none, seen};
+ghost use Rattle.session.specs.Seen.{none, seen, stage_of};
 ghost use Rattle.session.specs.Steps.{Answered, OpensFrom, Stepped};
 ghost use Rattle.session.specs.Turns.{Replied};
 
 use crate::Session;
+use crate::desk::Desk;
 use crate::desk::answering::put_ack;
+use crate::desk::any::AnyDesk;
 use crate::desk::calls::OUT_OF_TURN;
-use crate::desk::{Desk, ENTRIES};
-use crate::kind::BoardKind;
-use entry::kinds::{BySource, Net};
 use lines::command::Command;
 use lines::hold::LineHold;
 use lines::say::ROOM;
 use scale::fault::Fault;
+use std::mem::replace;
 
 impl Session {
     // No month yet.
@@ -25,13 +25,7 @@ impl Session {
         ensures { seen result ≡ none }
     {
         Session {
-            desk: Desk::new(),
-            kind: BoardKind::Net,
-            net: [Net { units: 0 }; ENTRIES],
-            by_source: [BySource {
-                conventional: 0,
-                incentivised: 0,
-            }; ENTRIES],
+            desk: AnyDesk::Net(Desk::new()),
         }
     }
 
@@ -42,17 +36,9 @@ impl Session {
         if !self.desk.is_idle() {
             return Err(OUT_OF_TURN);
         }
-        match kind {
-            0 => {
-                self.kind = BoardKind::Net;
-                self.desk.open(&mut self.net, agents, hours, size)
-            }
-            1 => {
-                self.kind = BoardKind::BySource;
-                self.desk.open(&mut self.by_source, agents, hours, size)
-            }
-            _ => Err(OUT_OF_TURN),
-        }
+        let opened = AnyDesk::open(kind, agents, hours, size)?;
+        replace(&mut self.desk, opened).discard();
+        Ok(())
     }
 
     // Answers a command, at the front of the page.
@@ -67,9 +53,9 @@ impl Session {
                 places,
                 kind,
             } => put_ack(page, self.open(agents, hours, places, kind)),
-            _ => match self.kind {
-                BoardKind::Net => self.desk.answer(&mut self.net, command, page),
-                BoardKind::BySource => self.desk.answer(&mut self.by_source, command, page),
+            _ => match &mut self.desk {
+                AnyDesk::Net(desk) => desk.answer(command, page),
+                AnyDesk::BySource(desk) => desk.answer(command, page),
             },
         }
     }
@@ -89,14 +75,9 @@ impl Session {
 
     // Puts the month away, if there is one, and answers how many places it had taken.
     pub fn finish(self) -> u16
-        ensures { result ≡ taken_at self.desk.stage }
+        ensures { result ≡ taken_at (stage_of self.desk) }
     {
-        let Session {
-            desk,
-            kind: _,
-            net: _,
-            by_source: _,
-        } = self;
+        let Session { desk } = self;
         desk.discard()
     }
 }

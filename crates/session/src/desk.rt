@@ -5,6 +5,7 @@ use crate::stage::Stage;
 use book::contract::Contract;
 
 pub mod answering;
+pub mod any;
 pub mod calls;
 pub mod opening;
 pub mod questions;
@@ -34,11 +35,13 @@ pub struct Lengths {
     ghost few_entries: { entries ≤ 384 },
 }
 
-// The board stands beside it, since it is of one kind of entry or another.
-pub struct Desk {
+// The stage of a month, and memory of fixed size with a board of one kind of entry. No memory comes from a heap, so each
+// stands here whole, and the lengths say how much of it the month uses.
+pub struct Desk<E> {
     stage: Stage,
     lengths: Lengths,
     places: [Contract; PLACES],
     rows: [u32; ROWS],
     shortfalls: [u64; AGENTS],
+    board: [E; ENTRIES],
 }

@@ -1,9 +1,7 @@
 // A session: what each line asks of a month, and what is replied.
 #![tactic(auto)]
 
-use crate::desk::{Desk, ENTRIES};
-use crate::kind::BoardKind;
-use entry::kinds::{BySource, Net};
+use crate::desk::any::AnyDesk;
 
 pub mod answering;
 pub mod desk;
@@ -13,8 +11,5 @@ pub mod stage;
 
 // At most one month, on a board of one kind of entry or the other.
 pub struct Session {
-    desk: Desk,
-    kind: BoardKind,
-    net: [Net; ENTRIES],
-    by_source: [BySource; ENTRIES],
+    desk: AnyDesk,
 }

@@ -1,4 +1,4 @@
-pub mod Following
 pub mod Settling
 pub mod Between
 pub mod Recutting
+pub mod Rows

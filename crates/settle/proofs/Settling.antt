@@ -1,5 +1,5 @@
 -- The board follows place after place. Assumes nothing.
-use Rattle.std.proofs.Common.{◌≡◌, ℕ, ◌+◌, ◌-◌, ◌*◌, ◌<◌, ◌≤◌, false, List, length, get_or, take, drop, sym, refl, ap, ◌∙◌, subst, inl, inr, le_trans, mul-le-mul_right, add-mul, one-mul, arith}
+use Rattle.std.proofs.Common.{◌≡◌, ℕ, ◌+◌, ◌*◌, ◌<◌, ◌≤◌, false, List, length, get_or, take, drop, sym, refl, ap, ◌∙◌, subst, inl, inr, le_trans, mul-le-mul_right, add-mul, one-mul, arith}
 use Rattle.std.proofs.lemmas.List.{get_or-take, get_or_default, length-take-le, length-drop}
 use Rattle.std.proofs.lemmas.Bool.{cases_eq}
 use Rattle.entry.specs.Kinds.{Kind, Laws, joins, up_to}
@@ -27,21 +27,12 @@ pub record Followed {V : Type 0} (k : Kind V) (s t : State V) (done : ℕ) : Typ
   pub cancels : (i : ℕ) → i < done → stays (contract_at s i) (contract_at t i) ≡ false →
       AllCancel k rounding s.sizes.hours (contract_at s i) (row_at s i) × AllCancel k rounding s.sizes.hours (contract_at t i) (row_at t i)
 
--- the rows of the places lie within the rows
-pub covered_to : (n i h h' r : ℕ) → h' ≡ h → i < n → n * h ≤ r → (i + 1) * h' ≤ r
-covered_to n i h h' r e lt le = subst (λ (x : ℕ). (i + 1) * x ≤ r) (sym e) (le_trans (mul-le-mul_right h (let up : i + 1 ≤ n = omega arith in up)) le)
+-- the row of a place lies within the rows, and has an entry for each hour
+covered_to : (n i h r : ℕ) → i < n → n * h ≤ r → (i + 1) * h ≤ r
+covered_to n i h r lt le = le_trans (mul-le-mul_right h (let up : i + 1 ≤ n = omega arith in up)) le
 
-pub covered_from : (i h : ℕ) → i * h ≤ (i + 1) * h
-covered_from i h = mul-le-mul_right h (omega arith)
-
--- the row of a place, as the code cuts it out
-pub row_of_lem : (h h' i : ℕ) (rows : List ℕ) → h' ≡ h → take ((i + 1) * h' - i * h') (drop (i * h') rows) ≡ row_of h rows i
-row_of_lem h h' i rows e =
-    let n : (i + 1) * h' - i * h' ≡ h' = omega (arith, add-mul i 1 h', one-mul h') in
-    ap (λ (x : ℕ). take x (drop (i * h') rows)) n ∙ ap (λ (x : ℕ). take x (drop (i * x) rows)) e
-
-pub row_long : (h i : ℕ) (rows : List ℕ) → (i + 1) * h ≤ length rows → length (row_of h rows i) ≡ h
-row_long h i rows le = length-take-le h (drop (i * h) rows) (omega (arith, length-drop (i * h) rows, add-mul i 1 h, one-mul h))
+pub row_long : (n i h : ℕ) (rows : List ℕ) → i < n → n * h ≤ length rows → length (row_of h rows i) ≡ h
+row_long n i h rows lt le = length-take-le h (drop (i * h) rows) (omega (arith, covered_to n i h (length rows) lt le, length-drop (i * h) rows, add-mul i 1 h, one-mul h))
 
 -- a contract that is ready can be moved
 pub movable : (z : Sizes) (row : List ℕ) (c : Contract) (entries : ℕ) → entries ≡ z.agents * 4 * z.hours → length row ≡ z.hours
@@ -55,13 +46,11 @@ movable z row c entries full long p = record {
   effective = p.effective;
 }
 
-pub movable_at : (z : Sizes) (cs : List Contract) (rows : List ℕ) (entries h' i : ℕ) (d : Contract) → h' ≡ z.hours → i < length cs
-    → (i + 1) * z.hours ≤ length rows → entries ≡ z.agents * 4 * z.hours → Placed z (row_of z.hours rows i) (get_or cs i blank)
-    → Movable entries (take ((i + 1) * h' - i * h') (drop (i * h') rows)) (get_or cs i d)
-movable_at z cs rows entries h' i d e lt le full p =
-    subst (λ (r : List ℕ). Movable entries r (get_or cs i d)) (sym (row_of_lem z.hours h' i rows e))
-    (movable z (row_of z.hours rows i) (get_or cs i d) entries full (row_long z.hours i rows le)
-    (subst (Placed z (row_of z.hours rows i)) (get_or_default cs i blank d lt) p))
+pub movable_at : (z : Sizes) (cs : List Contract) (rows row : List ℕ) (c : Contract) (entries n i : ℕ) → c ≡ get_or cs i blank → row ≡ row_of z.hours rows i
+    → i < n → n * z.hours ≤ length rows → entries ≡ z.agents * 4 * z.hours → Placed z (row_of z.hours rows i) (get_or cs i blank) → Movable entries row c
+movable_at z cs rows row c entries n i ec er lt covered full p =
+    subst (λ (r : List ℕ). Movable entries r c) (sym er)
+    (subst (Movable entries (row_of z.hours rows i)) (sym ec) (movable z (row_of z.hours rows i) (get_or cs i blank) entries full (row_long n i z.hours rows lt covered) p))
 
 -- the contract at a place of a booked state
 pub booked_at : (cs : List Contract) (i : ℕ) (d : Contract) → i < length cs → get_or cs i d ≡ get_or (take (length cs) cs) i blank

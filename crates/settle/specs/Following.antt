@@ -1,13 +1,14 @@
 -- How the board follows one place.
-use Rattle.std.specs.Prelude.{◌≡◌, ℕ, ◌<◌, ◌≤◌, true, false, List, length, sum}
+use Rattle.std.specs.Prelude.{◌≡◌, ℕ, ◌<◌, ◌≤◌, true, false, cond, List, length, sum}
+use Rattle.scale.specs.Shares.{Rule}
 use Rattle.scale.specs.Totals.{limit}
 use Rattle.entry.specs.Kinds.{Kind}
 use Rattle.board.specs.declared.deal.Deal.{Deal}
 use Rattle.board.specs.Lanes.{room_for, fitting}
 use Rattle.book.specs.declared.contract.Contract.{Contract}
 use Rattle.book.specs.States.{in_force}
-use Rattle.board.specs.Moves.{cell}
-use Rattle.ledger.specs.Boards.{stays, AllCancel}
+use Rattle.board.specs.Moves.{cell, put}
+use Rattle.ledger.specs.Boards.{quantity_of, stays, AllCancel}
 use Rattle.ledger.specs.Calls.{rounding}
 
 -- who sells to whom under a contract, and where
@@ -20,6 +21,10 @@ pub record Movable (entries : ℕ) (row : List ℕ) (c : Contract) : Type 0 wher
   pub some : in_force c ≡ true → 1 ≤ sum row
   pub most : in_force c ≡ true → sum row ≤ limit
   pub effective : in_force c ≡ true → c.effective ≤ limit
+
+-- what a contract in force delivers to a lane at an hour by a deal: its own, or the one that sells back
+abbrev pub delivers : {V : Type 0} → Kind V → Rule → Contract → Deal → List ℕ → ℕ → ℕ → V
+delivers k rule c deal row l hour = cond (in_force c) (put k deal (quantity_of rule c row hour) l) k.nothing
 
 -- every lane has more, at each hour, what is joined to it there
 pub record Joined {V : Type 0} (k : Kind V) (hours : ℕ) (more : ℕ → ℕ → V) (old new : List V) : Type 0 where

@@ -1,5 +1,5 @@
 -- What the board needs of the book so that it can follow it.
-use Rattle.std.specs.Prelude.{◌≡◌, ℕ, ◌*◌, ◌<◌, ◌≤◌, true, List, [], length, sum, slice_index_or}
+use Rattle.std.specs.Prelude.{◌≡◌, ℕ, ◌*◌, ◌<◌, ◌≤◌, true, List, [], length, sum, Option, Some, None, slice_index_or, slice_set}
 use Rattle.scale.specs.Totals.{limit}
 use Rattle.book.specs.declared.contract.Contract.{Contract}
 use Rattle.book.specs.declared.sizes.Sizes.{Sizes}
@@ -12,6 +12,11 @@ use Rattle.ledger.specs.States.{State}
 abbrev pub booked : {V : Type 0} → Sizes → List Contract → List ℕ → List V → State V
 booked sizes contracts rows board =
     record { sizes = sizes; taken = length contracts; places = contracts; rows = rows; shortfalls = []; board = board }
+
+-- the contracts as an event leaves them: with one changed at an index, from 0, or with none
+abbrev pub marked : Option (ℕ × Contract) → List Contract → List Contract
+marked None contracts = contracts
+marked (Some change) contracts = slice_set contracts change.0 change.1
 
 -- a contract at a place with this row: its parties are agents, and in force its row is its amount over the hours
 pub record Placed (sizes : Sizes) (row : List ℕ) (c : Contract) : Type 0 where

@@ -1,23 +1,22 @@
 // The board follows the book: what contracts no longer deliver is taken off, and what they now deliver is added.
 #![tactic(auto)]
 
-ghost use Rattle.std.specs.Prelude.{◌≡◌, ◌<◌, ◌≤◌, length, sum, slice_set};
-ghost use Rattle.scale.specs.Shares.{shares_of};
-ghost use Rattle.scale.specs.Totals.{limit};
+ghost use Rattle.std.specs.Prelude.{◌≡◌, ◌<◌, ◌≤◌, ◌⊎◌, length, IfSome};
 ghost use Rattle.entry.specs.Kinds.{meaning, values};
+ghost use Rattle.board.specs.Lanes.{sold_back};
 ghost use Rattle.book.specs.Cuts.{recut as recut_by};
 ghost use Rattle.book.specs.Limits.{most_places, most_total};
 ghost use Rattle.book.specs.Sound.{seller_total};
-ghost use Rattle.ledger.specs.Boards.{changes, puts, stays as unmoved, takes_off, AllCancel, Revised};
+ghost use Rattle.ledger.specs.Boards.{changes, stays as unmoved, AllCancel, Revised};
 ghost use Rattle.ledger.specs.Calls.{rounding};
-ghost use Rattle.settle.specs.Following.{contract_deal, BothCancel, Joined, Movable};
-ghost use Rattle.settle.specs.Settled.{booked, Ready};
+ghost use Rattle.settle.specs.Following.{contract_deal, delivers, BothCancel, Joined, Movable};
+ghost use Rattle.settle.specs.Settled.{booked, marked, Ready};
 
 #[cfg(test)]
 mod tests;
 
+use board::add;
 use board::deal::Deal;
-use board::{add, take_off};
 use book::contract::{BLANK, Contract, MOST_PLACES};
 use book::cuts::recut;
 use book::sizes::Sizes;
@@ -29,7 +28,7 @@ use scale::share::share;
 // The most hours that a month has.
 const MOST_HOURS: usize = 744;
 
-// Who sells to whom under a contract, and where.
+// Who sells to whom under a contract, and where. No `From`: trait, contract and deal are all of other crates.
 fn deal_of(contract: &Contract) -> Deal
     ensures { result ≡ contract_deal contract.now }
 {
@@ -48,40 +47,25 @@ fn is_unmoved(old: &Contract, new: &Contract) -> bool
     old.in_force() && new.in_force() && old.effective == new.effective
 }
 
-// Writes the quantity of each hour: the effective amount over the row.
-fn fill(contract: &Contract, row: &[u32], quantities: &mut [u32])
-    requires room { length quantities.old ≡ length row.now }
-    requires some { 1 ≤ sum row.now }
-    requires most { sum row.now ≤ limit }
-    requires effective { contract.now.effective ≤ limit }
-    ensures { quantities.new ≡ shares_of rounding contract.now.effective row.now }
-{
-    let _ = share(contract.effective, &RowScale::new(row), quantities);
-}
-
-// Takes a contract's quantities off the board, if it is in force.
-fn leave<E: Reversible>(contract: &Contract, row: &[u32], quantities: &mut [u32], board: &mut [E])
+// Delivers a contract's quantities by a deal, if the contract is in force: its own deal puts them on the board, and the deal
+// sold back takes them off.
+fn deliver<E: Reversible>(
+    contract: &Contract,
+    deal: &Deal,
+    row: &[u32],
+    quantities: &mut [u32],
+    board: &mut [E],
+)
     requires room { length quantities.old ≡ length row.now }
     requires movable { Movable (length board.old) row.now contract.now }
-    ensures cells { Joined (meaning E.Joining E.Reversible.own) (length row.now) (takes_off (meaning E.Joining E.Reversible.own) rounding contract.now row.now) (values E.Joining board.old) (values E.Joining board.new) }
+    requires deal { deal.now ≡ contract_deal contract.now ⊎ deal.now ≡ sold_back (contract_deal contract.now) }
+    ensures cells { Joined (meaning E.Joining E.Reversible.own) (length row.now) (delivers (meaning E.Joining E.Reversible.own) rounding contract.now deal.now row.now) (values E.Joining board.old) (values E.Joining board.new) }
     ensures cancels { AllCancel (meaning E.Joining E.Reversible.own) rounding (length row.now) contract.now row.now }
 {
     if contract.in_force() {
-        fill(contract, row, quantities);
-        let _ = take_off(board, &deal_of(contract), quantities);
-    }
-}
-
-// Adds a contract's quantities to the board, if it is in force.
-fn enter<E: Reversible>(contract: &Contract, row: &[u32], quantities: &mut [u32], board: &mut [E])
-    requires room { length quantities.old ≡ length row.now }
-    requires movable { Movable (length board.old) row.now contract.now }
-    ensures cells { Joined (meaning E.Joining E.Reversible.own) (length row.now) (puts (meaning E.Joining E.Reversible.own) rounding contract.now row.now) (values E.Joining board.old) (values E.Joining board.new) }
-    ensures cancels { AllCancel (meaning E.Joining E.Reversible.own) rounding (length row.now) contract.now row.now }
-{
-    if contract.in_force() {
-        fill(contract, row, quantities);
-        let _ = add(board, &deal_of(contract), quantities);
+        // Neither refuses a contract that can be moved.
+        share(contract.effective, &RowScale::new(row), quantities).unwrap();
+        add(board, deal, quantities).unwrap();
     }
 }
 
@@ -100,8 +84,8 @@ fn move_place<E: Reversible>(
     ensures cancels { BothCancel (meaning E.Joining E.Reversible.own) row.now old.now new.now }
 {
     if !is_unmoved(old, new) {
-        leave(old, row, quantities, board);
-        enter(new, row, quantities, board);
+        deliver(old, &deal_of(old).reversed(), row, quantities, board);
+        deliver(new, &deal_of(new), row, quantities, board);
     }
 }
 
@@ -119,107 +103,51 @@ fn revise<E: Reversible>(
         (booked sizes.now new.now rows.now (values E.Joining board.new)) }
 {
     let hours = sizes.hours() as usize;
+    // Fixed memory, since the library allocates nothing.
     let mut scratch = [0u32; MOST_HOURS];
     let quantities = &mut scratch[0..hours];
-    for (i, contract) in old.iter().enumerate() {
-        let row = &rows[i * hours..(i + 1) * hours];
-        move_place(contract, &new[i], row, quantities, board);
+    for ((before, after), row) in old.iter().zip(new).zip(rows.chunks_exact(hours)) {
+        move_place(before, after, row, quantities, board);
     }
 }
 
-// Moves the board to the contracts that come after, and puts these in the place of those before.
-fn follow<E: Reversible>(
+// Puts the contract that an event changed at its place, if it changed one.
+fn mark(contracts: &mut [Contract], changed: Option<(usize, Contract)>)
+    requires { IfSome changed (λ change. change.0 < length contracts.old) }
+    ensures { contracts.new ≡ marked changed contracts.old }
+{
+    if let Some((index, contract)) = changed {
+        contracts[index] = contract;
+    }
+}
+
+// Resettles a seller: after its shortfall was told, when no contract changes but by the cuts, or after a contract of its was
+// confirmed or ended, when this contract stands changed at its place.
+pub fn settle<E: Reversible>(
     sizes: &Sizes,
     taken: &mut [Contract],
-    after: &[Contract],
+    changed: Option<(usize, Contract)>,
+    seller: u16,
+    shortfall: u64,
     rows: &[u32],
     board: &mut [E],
 )
-    requires { Ready sizes.now taken.old after.now rows.now (length board.old) }
-    ensures taken { taken.new ≡ after.now }
+    requires inside { IfSome changed (λ change. change.0 < length taken.old) }
+    requires ready { Ready sizes.now taken.old (marked changed taken.old) rows.now (length board.old) }
+    requires places { length taken.old ≤ most_places }
+    requires moderate { seller_total seller (marked changed taken.old) ≤ most_total }
+    ensures taken { taken.new ≡ recut_by rounding seller shortfall (marked changed taken.old) }
     ensures board { Revised (meaning E.Joining E.Reversible.own) rounding
         (booked sizes.now taken.old rows.now (values E.Joining board.old))
-        (booked sizes.now after.now rows.now (values E.Joining board.new)) }
+        (booked sizes.now taken.new rows.now (values E.Joining board.new)) }
 {
+    // Fixed memory, since the library allocates nothing.
+    let mut room = [BLANK; MOST_PLACES];
+    let after = &mut room[0..taken.len()];
+    after.copy_from_slice(taken);
+    mark(after, changed);
+    // Within the limits the cut refuses nothing.
+    recut(after, seller, shortfall).unwrap();
     revise(sizes, taken, after, rows, board);
     taken.copy_from_slice(after);
-}
-
-// Sets a seller's effective amounts in the contracts that an event leaves, and lets board and places follow them.
-fn resettle<E: Reversible>(
-    sizes: &Sizes,
-    taken: &mut [Contract],
-    after: &mut [Contract],
-    seller: u16,
-    shortfall: u64,
-    rows: &[u32],
-    board: &mut [E],
-)
-    requires ready { Ready sizes.now taken.old after.old rows.now (length board.old) }
-    requires places { length after.old ≤ most_places }
-    requires moderate { seller_total seller after.old ≤ most_total }
-    ensures taken { taken.new ≡ recut_by rounding seller shortfall after.old }
-    ensures board { Revised (meaning E.Joining E.Reversible.own) rounding
-        (booked sizes.now taken.old rows.now (values E.Joining board.old))
-        (booked sizes.now taken.new rows.now (values E.Joining board.new)) }
-{
-    let _ = recut(after, seller, shortfall);
-    follow(sizes, taken, after, rows, board);
-}
-
-// Resettles a seller after its shortfall was told: no contract changes but by the cuts.
-pub fn settle_all<E: Reversible>(
-    sizes: &Sizes,
-    taken: &mut [Contract],
-    seller: u16,
-    shortfall: u64,
-    rows: &[u32],
-    board: &mut [E],
-)
-    requires ready { Ready sizes.now taken.old taken.old rows.now (length board.old) }
-    requires places { length taken.old ≤ most_places }
-    requires moderate { seller_total seller taken.old ≤ most_total }
-    ensures taken { taken.new ≡ recut_by rounding seller shortfall taken.old }
-    ensures board { Revised (meaning E.Joining E.Reversible.own) rounding
-        (booked sizes.now taken.old rows.now (values E.Joining board.old))
-        (booked sizes.now taken.new rows.now (values E.Joining board.new)) }
-{
-    let mut room = [BLANK; MOST_PLACES];
-    let after = &mut room[0..taken.len()];
-    after.copy_from_slice(taken);
-    resettle(sizes, taken, after, seller, shortfall, rows, board);
-}
-
-// Resettles the seller of a contract that was confirmed or ended: it stands changed at its place.
-pub fn settle_place<E: Reversible>(
-    sizes: &Sizes,
-    taken: &mut [Contract],
-    index: usize,
-    changed: Contract,
-    shortfall: u64,
-    rows: &[u32],
-    board: &mut [E],
-)
-    requires inside { index < length taken.old }
-    requires ready { Ready sizes.now taken.old (slice_set taken.old index changed) rows.now (length board.old) }
-    requires places { length taken.old ≤ most_places }
-    requires moderate { seller_total changed.terms.seller (slice_set taken.old index changed) ≤ most_total }
-    ensures taken { taken.new ≡ recut_by rounding changed.terms.seller shortfall (slice_set taken.old index changed) }
-    ensures board { Revised (meaning E.Joining E.Reversible.own) rounding
-        (booked sizes.now taken.old rows.now (values E.Joining board.old))
-        (booked sizes.now taken.new rows.now (values E.Joining board.new)) }
-{
-    let mut room = [BLANK; MOST_PLACES];
-    let after = &mut room[0..taken.len()];
-    after.copy_from_slice(taken);
-    after[index] = changed;
-    resettle(
-        sizes,
-        taken,
-        after,
-        changed.terms.seller,
-        shortfall,
-        rows,
-        board,
-    );
 }

@@ -1,12 +1,14 @@
 // Holding a month's memories and answers against its account.
 use crate::kind::Kind;
+use crate::making::offer_of;
 use crate::staged::Staged;
-use anyhow::anyhow;
+use anyhow::ensure;
 use book::contract::{Contract, State};
 use model::account::Account;
 use model::call::Named;
-use model::ledger::{Line, Positions, turnover};
+use model::ledger::{Line, NOTHING, Positions, turnover};
 use month::phase::{Closed, Month};
+use scale::fault::{Fault, Reason};
 use std::alloc::Global;
 
 // How far a contract's life has come, by the account.
@@ -20,64 +22,31 @@ fn state_in(account: &Account, number: u16) -> State {
     }
 }
 
-fn same_state(a: State, b: State) -> bool {
-    a as u8 == b as u8
-}
-
 // Whether a memory holds just the numbers wanted.
 pub fn same_numbers(memory: &[u32], wanted: &[u64]) -> bool {
-    let mut same = memory.len() == wanted.len();
-    for (i, number) in memory.iter().enumerate() {
-        same = same && wanted.get(i).copied() == Some(u64::from(*number));
-    }
-    same
-}
-
-// A page of marks with a text at its front.
-fn page_with(text: &[u8]) -> [u8; 64] {
-    let mut page = [b'#'; 64];
-    for (i, byte) in page.iter_mut().enumerate() {
-        if let Some(letter) = text.get(i) {
-            *byte = *letter;
-        }
-    }
-    page
+    memory
+        .iter()
+        .map(|number| u64::from(*number))
+        .eq(wanted.iter().copied())
 }
 
 // The line of a contract number, if it is in force.
 fn line_of(lines: &[Line], number: u16) -> Option<&Line> {
-    for line in lines {
-        if line.named.number == number {
-            return Some(line);
-        }
-    }
-    None
+    lines.iter().find(|line| line.named.number == number)
 }
 
 impl<E: Kind + Drop> Staged<E> {
     // Whether a place holds what was offered, in the account's state.
     fn place_agrees(&self, contract: &Contract, named: &Named) -> bool {
-        let terms = contract.terms.fields();
-        terms.number == named.number
-            && terms.seller == named.seller
-            && terms.buyer == named.buyer
-            && terms.submarket == named.submarket
-            && terms.class == named.class
-            && terms.source == named.source
-            && terms.first == named.first
-            && terms.last == named.last
-            && terms.amount == named.amount
-            && same_state(contract.state, state_in(&self.account, named.number))
+        contract.terms.fields() == offer_of(named)
+            && contract.state == state_in(&self.account, named.number)
     }
 
     // Whether a place and its row are what the account says.
     fn all_agrees(&self, place: usize, named: &Named, line: Option<&Line>) -> bool {
-        match self.places.get(place) {
-            Some(contract) => {
-                self.place_agrees(contract, named) && self.delivery_agrees(place, contract, line)
-            }
-            None => false,
-        }
+        self.places.get(place).is_some_and(|contract| {
+            self.place_agrees(contract, named) && self.delivery_agrees(place, contract, line)
+        })
     }
 
     // Whether the effective amount of a place, and the row of one in force, are the account's.
@@ -87,33 +56,31 @@ impl<E: Kind + Drop> Staged<E> {
         };
         let hours = usize::from(self.account.hours);
         let from = place.wrapping_mul(hours);
-        match self.rows.get(from..from.wrapping_add(hours)) {
-            Some(row) => {
-                u64::from(contract.effective) == line.effective
-                    && same_numbers(row, line.row.as_slice())
-            }
-            None => false,
-        }
+        u64::from(contract.effective) == line.effective
+            && self
+                .rows
+                .get(from..from.wrapping_add(hours))
+                .is_some_and(|row| same_numbers(row, line.row.as_slice()))
     }
 
     // Holds every place and row against the account.
     fn compare_places(&self, heap: Global, lines: &[Line]) -> anyhow::Result<()> {
         for (i, named) in self.account.offered(heap)?.iter().enumerate() {
-            if !self.all_agrees(i, named, line_of(lines, named.number)) {
-                return Err(anyhow!("a place differs from the account"));
-            }
+            ensure!(
+                self.all_agrees(i, named, line_of(lines, named.number)),
+                "a place differs from the account"
+            );
         }
         Ok(())
     }
 
     // Holds every shortfall against the account.
     fn compare_shortfalls(&self) -> anyhow::Result<()> {
-        for agent in 1..=self.account.agents {
-            let told = self.shortfalls.get(usize::from(agent).wrapping_sub(1));
-            if told.copied() != Some(self.account.shortfall(agent)) {
-                return Err(anyhow!("a shortfall differs from the account"));
-            }
-        }
+        let wanted = (1..=self.account.agents).map(|agent| self.account.shortfall(agent));
+        ensure!(
+            self.shortfalls.iter().copied().eq(wanted),
+            "a shortfall differs from the account"
+        );
         Ok(())
     }
 
@@ -126,14 +93,12 @@ impl<E: Kind + Drop> Staged<E> {
     ) -> anyhow::Result<()> {
         for submarket in 1..=4u16 {
             for hour in 1..=self.account.hours {
-                let (conventional, incentivised) = wanted.at(agent, submarket, hour);
-                let agrees = match month.position(self.board.as_slice(), agent, submarket, hour) {
-                    Ok(entry) => entry.says(conventional, incentivised),
-                    Err(_) => false,
-                };
-                if !agrees {
-                    return Err(anyhow!("a position differs from the account"));
-                }
+                let position = wanted.at(agent, submarket, hour);
+                let answer = month.position(self.board.as_slice(), agent, submarket, hour);
+                ensure!(
+                    answer.is_ok_and(|entry| entry.says(position)),
+                    "a position differs from the account"
+                );
             }
         }
         Ok(())
@@ -143,13 +108,11 @@ impl<E: Kind + Drop> Staged<E> {
     fn compare_balance<P>(&self, month: &Month<P>) -> anyhow::Result<()> {
         for submarket in 1..=4u16 {
             for hour in 1..=self.account.hours {
-                let empty = match month.balance(self.board.as_slice(), submarket, hour) {
-                    Ok(entry) => entry.says(0, 0),
-                    Err(_) => false,
-                };
-                if !empty {
-                    return Err(anyhow!("an hour does not balance"));
-                }
+                let answer = month.balance(self.board.as_slice(), submarket, hour);
+                ensure!(
+                    answer.is_ok_and(|entry| entry.says(NOTHING)),
+                    "an hour does not balance"
+                );
             }
         }
         Ok(())
@@ -162,18 +125,10 @@ impl<E: Kind + Drop> Staged<E> {
         lines: &[Line],
         agent: u16,
     ) -> anyhow::Result<(u64, u64)> {
-        let answer = month.turnover(
-            self.places.as_slice(),
-            self.rows.as_slice(),
-            self.shortfalls.as_slice(),
-            self.board.as_slice(),
-            agent,
-        );
-        let (sold, bought) = turnover(lines, agent);
-        match answer {
-            Ok((s, b)) if s == sold && b == bought => Ok((s, b)),
-            _ => Err(anyhow!("a turnover differs from the account")),
-        }
+        let answer = month.turnover(self.memories(), agent);
+        let wanted = turnover(lines, agent);
+        ensure!(answer == Ok(wanted), "a turnover differs from the account");
+        Ok(wanted)
     }
 
     // Whether a contract's quantity at an hour is the account's, or is refused where it is not in force.
@@ -185,22 +140,16 @@ impl<E: Kind + Drop> Staged<E> {
         line: Option<&Line>,
         hour: u16,
     ) -> bool {
-        let answer = month.quantity(
-            self.places.as_slice(),
-            self.rows.as_slice(),
-            self.shortfalls.as_slice(),
-            self.board.as_slice(),
-            named.number,
-            hour,
-        );
-        match (answer, line) {
-            (Ok(quantity), Some(line)) => {
-                let at = usize::from(hour).wrapping_sub(1);
-                line.quantities.get(at).copied() == Some(u64::from(quantity))
-            }
-            (Err(fault), None) => fault.reason.number() == 10 && fault.spot == place,
-            _ => false,
-        }
+        let answer = month.quantity(self.memories(), named.number, hour);
+        let Some(line) = line else {
+            return answer
+                == Err(Fault {
+                    reason: Reason::StateUnfit,
+                    spot: place,
+                });
+        };
+        let wanted = line.quantities.get(usize::from(hour).wrapping_sub(1));
+        answer.is_ok_and(|quantity| wanted.copied() == Some(u64::from(quantity)))
     }
 
     // Holds the quantity of every contract at every hour against the account's.
@@ -209,9 +158,10 @@ impl<E: Kind + Drop> Staged<E> {
         for (i, named) in self.account.offered(heap)?.iter().enumerate() {
             let line = line_of(lines.as_slice(), named.number);
             for hour in 1..=self.account.hours {
-                if !self.quantity_agrees(month, i.wrapping_add(1), named, line, hour) {
-                    return Err(anyhow!("a quantity differs from the account"));
-                }
+                ensure!(
+                    self.quantity_agrees(month, i.wrapping_add(1), named, line, hour),
+                    "a quantity differs from the account"
+                );
             }
         }
         Ok(())
@@ -223,26 +173,17 @@ impl<E: Kind + Drop> Staged<E> {
         heap: Global,
         month: &Month<Closed>,
         agent: u16,
-        sold: u64,
-        bought: u64,
+        (sold, bought): (u64, u64),
     ) -> anyhow::Result<()> {
         let mut page = [b'#'; 64];
-        let answer = month.certificate(
-            self.places.as_slice(),
-            self.rows.as_slice(),
-            self.shortfalls.as_slice(),
-            self.board.as_slice(),
-            agent,
-            &mut page,
-        );
+        let answer = month.certificate(self.memories(), agent, &mut page);
         let text = format!(in heap; "agent {agent} sold {sold} bought {bought}\n")?;
-        let fits = match answer {
-            Ok(length) => length == text.len(),
-            Err(_) => false,
-        };
-        if !fits || page != page_with(text.as_bytes()) {
-            return Err(anyhow!("a certificate line differs from the account"));
-        }
+        let rest = page.strip_prefix(text.as_bytes());
+        ensure!(
+            answer.is_ok_and(|length| length == text.len())
+                && rest.is_some_and(|rest| rest.iter().all(|byte| *byte == b'#')),
+            "a certificate line differs from the account"
+        );
         Ok(())
     }
 
@@ -251,7 +192,7 @@ impl<E: Kind + Drop> Staged<E> {
         let lines = self.account.lines(heap)?;
         self.compare_places(heap, lines.as_slice())?;
         self.compare_shortfalls()?;
-        let wanted = self.account.positions(heap, lines.as_slice())?;
+        let wanted = Positions::of(heap, lines.as_slice())?;
         for agent in 1..=self.account.agents {
             self.compare_agent(month, &wanted, agent)?;
         }

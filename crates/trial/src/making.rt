@@ -1,8 +1,9 @@
 // Making a call, and holding its answer against the account.
 use crate::kind::Kind;
 use crate::staged::Staged;
-use anyhow::anyhow;
+use anyhow::{bail, ensure};
 use book::contract::Offer;
+use model::answers::Refusal;
 use model::call::{Call, Named};
 use month::phase::{Month, Open};
 use scale::clip::Clip;
@@ -12,23 +13,25 @@ use scale::row::RowScale;
 use std::alloc::{AllocError, Global};
 
 // The kind of scale that a confirmation hands in.
-#[derive(Clone, Copy)]
+#[derive(Clone, Copy, PartialEq, Eq, Debug)]
 pub enum Shape {
     Even,
     Row,
     Clip { first: u16, last: u16 },
 }
 
-// The weight of a part, from 1, in a scale of a shape.
-fn weight_of(shape: Shape, part: usize, raw: u32) -> u32 {
-    match shape {
-        Shape::Even => 1,
-        Shape::Row => raw,
-        Shape::Clip { first, last } => {
-            if part >= usize::from(first) && part <= usize::from(last) {
-                raw
-            } else {
-                0
+impl Shape {
+    // The weight of a part, from 1, whose raw weight is given.
+    fn weight(self, part: usize, raw: u32) -> u32 {
+        match self {
+            Shape::Even => 1,
+            Shape::Row => raw,
+            Shape::Clip { first, last } => {
+                if (usize::from(first)..=usize::from(last)).contains(&part) {
+                    raw
+                } else {
+                    0
+                }
             }
         }
     }
@@ -36,14 +39,22 @@ fn weight_of(shape: Shape, part: usize, raw: u32) -> u32 {
 
 // The weights that a scale of a shape, made of raw weights, means.
 pub fn meant(heap: Global, shape: Shape, raw: &[u32]) -> Result<Vec<u32>, AllocError> {
-    let mut weights = Vec::new(heap);
-    for (i, weight) in raw.iter().enumerate() {
-        weights.push(weight_of(shape, i.wrapping_add(1), *weight))?;
-    }
-    Ok(weights)
+    (1..=raw.len())
+        .zip(raw)
+        .map(|(part, weight)| shape.weight(part, *weight))
+        .collect(heap)
 }
 
-fn offer_of(named: &Named) -> Offer {
+// A refusal of the system as the account has it, by its number. Both types stand in other crates, and an impl of `From` must name one of this.
+pub fn refusal_of(fault: Fault) -> Refusal {
+    Refusal {
+        number: fault.reason.number(),
+        spot: fault.spot,
+    }
+}
+
+// An offer of the system, as the account names it; no `From` for the same reason.
+pub fn offer_of(named: &Named) -> Offer {
     Offer {
         number: named.number,
         seller: named.seller,
@@ -71,6 +82,7 @@ impl<E: Kind + Drop> Staged<E> {
         )
     }
 
+    // Each shape is a scale of another type, and the month confirms on any: so the shape is told apart here, and no closure would be shorter.
     fn confirm(
         &mut self,
         month: &Month<Open>,
@@ -110,61 +122,39 @@ impl<E: Kind + Drop> Staged<E> {
     ) -> Result<(), Fault> {
         let places = self.places.as_mut_slice();
         let rows = self.rows.as_slice();
+        let owed = &mut self.shortfalls;
         let board = self.board.as_mut_slice();
         match call {
             Call::Offer(named) => {
-                month.offer(
-                    places,
-                    rows,
-                    self.shortfalls.as_slice(),
-                    board,
-                    offer_of(named),
-                )
+                month.offer(places, rows, owed.as_slice(), board, offer_of(named))
             }
             Call::Confirm { number, agent, .. } => {
                 self.confirm(month, *number, *agent, shape, raw)
             }
-            Call::End { number, agent } => month.end(
-                places,
-                rows,
-                self.shortfalls.as_slice(),
-                board,
-                *number,
-                *agent,
-            ),
-            Call::Tell { agent, kwh } => month.tell(
-                places,
-                rows,
-                self.shortfalls.as_mut_slice(),
-                board,
-                *agent,
-                *kwh,
-            ),
+            Call::End { number, agent } => {
+                month.end(places, rows, owed.as_slice(), board, *number, *agent)
+            }
+            Call::Tell { agent, kwh } => {
+                month.tell(places, rows, owed.as_mut_slice(), board, *agent, *kwh)
+            }
         }
     }
 
     // Holds the answer of a call against the account, and writes the call down if it was accepted.
-    // Answers whether it was.
     pub fn note(
         &mut self,
-        heap: Global,
         call: Call,
         answer: Result<(), Fault>,
-    ) -> anyhow::Result<bool> {
-        match (self.account.answer(heap, &call)?, answer) {
-            (None, Ok(())) => {
-                self.account.note(call)?;
-                Ok(true)
+    ) -> anyhow::Result<Result<(), Refusal>> {
+        let told = answer.map_err(refusal_of);
+        match (self.account.answer(&call), told) {
+            (Ok(()), Ok(())) => self.account.note(call)?,
+            (Err(wanted), Err(refusal)) => {
+                ensure!(wanted == refusal, "another refusal than the account's");
             }
-            (Some(refusal), Err(fault)) => {
-                if refusal.number == fault.reason.number() && refusal.spot == fault.spot {
-                    Ok(false)
-                } else {
-                    Err(anyhow!("another refusal than the account's"))
-                }
-            }
-            (None, Err(_)) => Err(anyhow!("refused, and the account accepts")),
-            (Some(_), Ok(())) => Err(anyhow!("accepted, and the account refuses")),
+            (Ok(()), Err(_)) => bail!("refused, and the account accepts"),
+            (Err(_), Ok(())) => bail!("accepted, and the account refuses"),
         }
+        Ok(told)
     }
 }

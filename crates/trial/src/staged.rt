@@ -3,6 +3,7 @@ use crate::kind::Kind;
 use book::contract::{Class, Contract, State, Terms};
 use entry::source::Source;
 use model::account::Account;
+use month::memories::Memories;
 use std::alloc::{AllocError, Global};
 
 #[derive(Drop)]
@@ -43,16 +44,22 @@ impl<E: Kind + Drop> Staged<E> {
         let entries = usize::from(agents)
             .wrapping_mul(4)
             .wrapping_mul(usize::from(hours));
-        let mut board = Vec::new(heap);
-        for _ in 0..entries {
-            board.push(E::empty())?;
-        }
         Ok(Staged {
             places: vec![in heap; UNUSED; usize::from(places)]?,
             rows: vec![in heap; 77; rows]?,
             shortfalls: vec![in heap; 5; usize::from(agents)]?,
-            board,
+            board: (0..entries).map(|_| E::empty()).collect(heap)?,
             account: Account::new(heap, agents, hours, places),
         })
+    }
+
+    // The four memories, lent for a question.
+    pub fn memories(&self) -> Memories<'_, E> {
+        Memories {
+            places: self.places.as_slice(),
+            rows: self.rows.as_slice(),
+            shortfalls: self.shortfalls.as_slice(),
+            board: self.board.as_slice(),
+        }
     }
 }

@@ -1,14 +1,15 @@
 // A host that lends its four memories to each call, and notes what it is told.
 use book::contract::{BLANK, Contract, Offer};
 use entry::kinds::Net;
+use month::memories::Memories;
 use month::phase::{Closed, Month, Open};
 use scale::fault::Fault;
 use scale::row::RowScale;
 
-// A refusal's number and spot; zeros where nothing was refused.
-pub type Told = (u16, usize);
+// What a call is told: a refusal's number and spot, or nothing.
+pub type Told = Result<(), (u16, usize)>;
 
-pub const PASSED: Told = (0, 0);
+pub const PASSED: Told = Ok(());
 
 pub const EMPTY: Net = Net { units: 0 };
 
@@ -26,19 +27,28 @@ pub const OFFER: Offer = Offer {
 };
 
 pub fn told<T: Drop>(answer: Result<T, Fault>) -> Told {
-    match answer {
-        Ok(_) => PASSED,
-        Err(fault) => (fault.reason.number(), fault.spot),
-    }
+    answer
+        .map(|_| ())
+        .map_err(|fault| (fault.reason.number(), fault.spot))
 }
 
+// The same of an opening, whose month is let go.
 pub fn told_opening(answer: Result<Month<Open>, Fault>) -> Told {
-    match answer {
-        Ok(month) => {
-            month.discard();
-            PASSED
-        }
-        Err(fault) => (fault.reason.number(), fault.spot),
+    told(answer.map(Month::discard))
+}
+
+// The four memories, lent for a question.
+pub fn lent<'a>(
+    places: &'a [Contract],
+    rows: &'a [u32],
+    shortfalls: &'a [u64],
+    board: &'a [Net],
+) -> Memories<'a, Net> {
+    Memories {
+        places,
+        rows,
+        shortfalls,
+        board,
     }
 }
 
@@ -124,24 +134,16 @@ impl Host {
         ))
     }
 
+    fn memories(&self) -> Memories<'_, Net> {
+        lent(&self.places, &self.rows, &self.shortfalls, &self.board)
+    }
+
     pub fn lookup<P>(&self, month: &Month<P>, number: u16) -> Told {
-        told(month.lookup(
-            &self.places,
-            &self.rows,
-            &self.shortfalls,
-            &self.board,
-            number,
-        ))
+        told(month.lookup(self.memories(), number))
     }
 
     pub fn turnover<P>(&self, month: &Month<P>, agent: u16) -> Told {
-        told(month.turnover(
-            &self.places,
-            &self.rows,
-            &self.shortfalls,
-            &self.board,
-            agent,
-        ))
+        told(month.turnover(self.memories(), agent))
     }
 
     pub fn position<P>(&self, month: &Month<P>, agent: u16, submarket: u16, hour: u16) -> Told {
@@ -153,13 +155,6 @@ impl Host {
     }
 
     pub fn certificate(&self, month: &Month<Closed>, agent: u16, page: &mut [u8]) -> Told {
-        told(month.certificate(
-            &self.places,
-            &self.rows,
-            &self.shortfalls,
-            &self.board,
-            agent,
-            page,
-        ))
+        told(month.certificate(self.memories(), agent, page))
     }
 }

@@ -1,5 +1,5 @@
 // Every refusal of every call, once.
-use crate::host::{EMPTY, Host, OFFER, PASSED, told, told_opening};
+use crate::host::{EMPTY, Host, OFFER, PASSED, lent, told, told_opening};
 use book::contract::{BLANK, Offer};
 use book::sizes::Sizes;
 use month::phase::Month;
@@ -10,11 +10,11 @@ use std::test::Fail;
 fn sizes_at_their_limits(rt: HostRuntime) {
     assert_eq!(rt; told(Sizes::new(2, 744, 1)), PASSED);
     assert_eq!(rt; told(Sizes::new(64, 1, 256)), PASSED);
-    assert_eq!(rt; told(Sizes::new(1, 745, 0)), (3, 1));
-    assert_eq!(rt; told(Sizes::new(65, 1, 1)), (3, 1));
-    assert_eq!(rt; told(Sizes::new(2, 745, 0)), (3, 2));
-    assert_eq!(rt; told(Sizes::new(2, 0, 1)), (3, 2));
-    assert_eq!(rt; told(Sizes::new(2, 1, 257)), (3, 3));
+    assert_eq!(rt; told(Sizes::new(1, 745, 0)), Err((3, 1)));
+    assert_eq!(rt; told(Sizes::new(65, 1, 1)), Err((3, 1)));
+    assert_eq!(rt; told(Sizes::new(2, 745, 0)), Err((3, 2)));
+    assert_eq!(rt; told(Sizes::new(2, 0, 1)), Err((3, 2)));
+    assert_eq!(rt; told(Sizes::new(2, 1, 257)), Err((3, 3)));
 }
 
 #[test]
@@ -38,7 +38,16 @@ fn opening_wants_exact_memories(rt: HostRuntime) {
         )),
         told_opening(Month::open(2, 745, 3, &places, &rows, &mut owed, &mut board)),
     ];
-    assert_eq!(rt; told, [(1, 1), (1, 2), (1, 3), (1, 4), (3, 2)]);
+    assert_eq!(rt;
+        told,
+        [
+            Err((1, 1)),
+            Err((1, 2)),
+            Err((1, 3)),
+            Err((1, 4)),
+            Err((3, 2))
+        ]
+    );
 }
 
 // Each memory in turn is too long.
@@ -57,7 +66,7 @@ fn changes_want_exact_memories(rt: HostRuntime) -> Result<(), Fail> {
         told(month.tell(&mut places, &rows, &mut owed, &mut [EMPTY; 17], 1, 5)),
     ];
     month.discard();
-    assert_eq!(rt; told, [(1, 1), (1, 2), (1, 3), (1, 4)]);
+    assert_eq!(rt; told, [Err((1, 1)), Err((1, 2)), Err((1, 3)), Err((1, 4))]);
     Ok(())
 }
 
@@ -69,14 +78,23 @@ fn questions_want_exact_memories(rt: HostRuntime) -> Result<(), Fail> {
     let mut board = [EMPTY; 16];
     let month = Month::open(2, 2, 3, &places, &rows, &mut owed, &mut board)?.close();
     let told = [
-        told(month.lookup(&[BLANK; 4], &rows, &owed, &board, 7)),
-        told(month.turnover(&places, &[0; 7], &owed, &board, 1)),
-        told(month.certificate(&places, &rows, &[0; 3], &board, 1, &mut [0; 64])),
+        told(month.lookup(lent(&[BLANK; 4], &rows, &owed, &board), 7)),
+        told(month.turnover(lent(&places, &[0; 7], &owed, &board), 1)),
+        told(month.certificate(lent(&places, &rows, &[0; 3], &board), 1, &mut [0; 64])),
         told(month.position(&[EMPTY; 17], 1, 1, 1)),
         told(month.balance(&[EMPTY; 17], 1, 1)),
     ];
     month.discard();
-    assert_eq!(rt; told, [(1, 1), (1, 2), (1, 3), (1, 4), (1, 4)]);
+    assert_eq!(rt;
+        told,
+        [
+            Err((1, 1)),
+            Err((1, 2)),
+            Err((1, 3)),
+            Err((1, 4)),
+            Err((1, 4))
+        ]
+    );
     Ok(())
 }
 
@@ -98,8 +116,8 @@ fn a_shortfall_too_large_is_unsound(rt: HostRuntime) -> Result<(), Fail> {
         host.certificate(&month, 1, &mut [0; 64]),
     ];
     month.discard();
-    assert_eq!(rt; changes, [(2, 0); 4]);
-    assert_eq!(rt; questions, [(2, 0); 3]);
+    assert_eq!(rt; changes, [Err((2, 0)); 4]);
+    assert_eq!(rt; questions, [Err((2, 0)); 3]);
     Ok(())
 }
 
@@ -126,8 +144,8 @@ fn a_bad_place_is_unsound(rt: HostRuntime) -> Result<(), Fail> {
     ];
     month.discard();
     assert_eq!(rt; offered, [PASSED; 2]);
-    assert_eq!(rt; changes, [(2, 2); 4]);
-    assert_eq!(rt; questions, [(2, 2); 3]);
+    assert_eq!(rt; changes, [Err((2, 2)); 4]);
+    assert_eq!(rt; questions, [Err((2, 2)); 3]);
     Ok(())
 }
 
@@ -171,17 +189,17 @@ fn offers_outside_their_limits(rt: HostRuntime) -> Result<(), Fail> {
     assert_eq!(rt;
         told,
         [
-            (4, 1),
-            (4, 2),
-            (4, 3),
-            (4, 4),
-            (4, 5),
-            (4, 6),
-            (4, 7),
-            (4, 8),
-            (4, 9),
-            (4, 9),
-            (5, 0),
+            Err((4, 1)),
+            Err((4, 2)),
+            Err((4, 3)),
+            Err((4, 4)),
+            Err((4, 5)),
+            Err((4, 6)),
+            Err((4, 7)),
+            Err((4, 8)),
+            Err((4, 9)),
+            Err((4, 9)),
+            Err((5, 0)),
         ]
     );
     Ok(())
@@ -213,7 +231,10 @@ fn offers_take_the_next_place_or_none(rt: HostRuntime) -> Result<(), Fail> {
         host.offer(&mut month, Offer { number: 9, ..OFFER }),
     ];
     month.discard();
-    assert_eq!(rt; told, [PASSED, PASSED, PASSED, (6, 2), PASSED, (7, 0)]);
+    assert_eq!(rt;
+        told,
+        [PASSED, PASSED, PASSED, Err((6, 2)), PASSED, Err((7, 0))]
+    );
     Ok(())
 }
 
@@ -237,14 +258,14 @@ fn confirmations_are_refused(rt: HostRuntime) -> Result<(), Fail> {
     assert_eq!(rt;
         told,
         [
-            (8, 0),
-            (9, 1),
-            (11, 0),
-            (12, 0),
-            (13, 2),
+            Err((8, 0)),
+            Err((9, 1)),
+            Err((11, 0)),
+            Err((12, 0)),
+            Err((13, 2)),
             PASSED,
-            (9, 1),
-            (10, 1),
+            Err((9, 1)),
+            Err((10, 1)),
         ]
     );
     // The repeat moved nothing.
@@ -280,7 +301,7 @@ fn a_seller_at_its_limit(rt: HostRuntime) -> Result<(), Fail> {
     ];
     month.discard();
     assert_eq!(rt; offered, [PASSED; 3]);
-    assert_eq!(rt; told, [PASSED, PASSED, (15, 3)]);
+    assert_eq!(rt; told, [PASSED, PASSED, Err((15, 3))]);
     Ok(())
 }
 
@@ -304,13 +325,13 @@ fn endings_and_tellings_are_refused(rt: HostRuntime) -> Result<(), Fail> {
         told,
         [
             PASSED,
-            (8, 0),
-            (9, 1),
+            Err((8, 0)),
+            Err((9, 1)),
             PASSED,
-            (10, 1),
-            (4, 1),
-            (4, 1),
-            (16, 0),
+            Err((10, 1)),
+            Err((4, 1)),
+            Err((4, 1)),
+            Err((16, 0)),
             PASSED,
         ]
     );
@@ -339,17 +360,17 @@ fn questions_are_refused(rt: HostRuntime) -> Result<(), Fail> {
     assert_eq!(rt;
         told,
         [
-            (4, 1),
-            (4, 2),
-            (4, 3),
+            Err((4, 1)),
+            Err((4, 2)),
+            Err((4, 3)),
             PASSED,
-            (4, 1),
-            (4, 2),
+            Err((4, 1)),
+            Err((4, 2)),
             PASSED,
-            (4, 1),
+            Err((4, 1)),
             PASSED,
-            (4, 1),
-            (14, 0),
+            Err((4, 1)),
+            Err((14, 0)),
             PASSED,
         ]
     );

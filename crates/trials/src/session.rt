@@ -1,5 +1,5 @@
 // A session of 3 agents, 4 hours and 2 places.
-use crate::host::{EMPTY, OFFER, PASSED, told};
+use crate::host::{EMPTY, OFFER, PASSED, lent, told};
 use book::contract::{BLANK, Offer};
 use entry::kinds::Net;
 use month::phase::Month;
@@ -7,11 +7,8 @@ use scale::even::EvenScale;
 use scale::fault::Fault;
 use std::test::Fail;
 
-fn units(position: Result<Net, Fault>) -> i64 {
-    match position {
-        Ok(net) => net.units,
-        Err(_) => i64::MIN,
-    }
+fn units(position: Result<Net, Fault>) -> Option<i64> {
+    position.ok().map(|net| net.units)
 }
 
 #[test]
@@ -39,13 +36,14 @@ fn a_contract_is_confirmed_cut_and_certified(rt: HostRuntime) -> Result<(), Fail
     let bought = units(month.position(&board, 2, 1, 4));
     let again = told(month.confirm(&mut places, &mut rows, &shortfalls, &mut board, 7, 2, &even));
     let month = month.close();
-    let count = month.certificate(&places, &rows, &shortfalls, &board, 2, &mut page);
+    let lent = lent(&places, &rows, &shortfalls, &board);
+    let count = month.certificate(lent, 2, &mut page);
     month.discard();
     assert_eq!(rt;
         [offered, confirmed, cut, again],
-        [PASSED, PASSED, PASSED, (10, 1)]
+        [PASSED, PASSED, PASSED, Err((10, 1))]
     );
-    assert_eq!(rt; (sold, bought), (3, -2));
+    assert_eq!(rt; (sold, bought), (Some(3), Some(-2)));
     assert_eq!(rt; rows, [2, 3, 2, 3, 0, 0, 0, 0]);
     assert_eq!(rt; count?, 24);
     assert_eq!(rt; &page[0..24], b"agent 2 sold 0 bought 5\n".as_slice());

@@ -1,50 +1,26 @@
-use Rattle.std.proofs.Common.{◌≡◌, ◌+◌, ◌*◌, ◌<◌, length, get_or, set, sym, ap, ◌∙◌, subst, rules}
-use Rattle.std.proofs.lemmas.List.{map-set, length-map, length-set}
-use Rattle.entry.specs.Kinds.{meaning, values}
-use Rattle.board.specs.Moves.{cell, Moved}
-use Rattle.board.proofs.Cells.{moved_more, within, cell_lane, read_cell}
+use Rattle.std.proofs.Common.{◌≡◌, ℕ, ◌<◌, length, get_or, ap, ◌∙◌, arith, rules}
+use Rattle.entry.specs.Kinds.{Laws, Cancels, joins, meaning}
+use Rattle.board.proofs.Cells.{moved_both}
 use Rattle.board.proofs.transfer.Goals as goal
 
-pub offset_bounds-board-seller-in-loop-hour : goal.offset_bounds-board-seller-in-loop-hour
-offset_bounds-board-seller-in-loop-hour g c =
-    let lt : c.args.from * length c.args.quantities.now + c.loop-hour.hour < length c.args.board.now = within _ _ _ _ c.loop-hour-test.true c.requires.leaves in
-    search rules
-
-pub loop-hour-preserved : goal.loop-hour-preserved
-loop-hour-preserved g c =
+pub returns : goal.returns
+returns g c =
     let j = g.E.Joining in
-    let r = g.E.Reversible in
-    let k = meaning j r in
-    let row = c.args.quantities.now in
-    let hours = length row in
-    let h = c.loop-hour.hour in
-    let from = c.args.from in
-    let to = c.args.to in
-    let es = c.loop-hour.board in
-    let in_row : h < hours = c.loop-hour-test.true in
-    let a = c.join.result in
-    let b = c.join-in-loop-hour.result in
-    let s = c.args.source in
-    let q = get_or row h 0 in
-    let lt : from * hours + h < length es = rw c.loop-hour.auto.board (within _ _ _ _ in_row c.requires.leaves) in
-    let lt' : to * hours + h < length es = rw c.loop-hour.auto.board (within _ _ _ _ in_row c.requires.enters) in
-    let mid = set es (from * hours + h) a in
-    let lm : to * hours + h < length mid = rw length-set lt' in
-    let sold : j.value c.of_quantity-sold.result ≡ k.sold q s = c.of_quantity-sold.ensures in
-    let bought : j.value c.opposite.result ≡ k.bought q s = c.opposite.ensures.is ∙ g.met.E.Reversible.alike _ _ sold in
-    let first : j.value a ≡ k.join (cell k hours (values j es) from h) (k.sold q s) =
-    c.join.ensures ∙ ap (λ x. k.join x (j.value c.of_quantity-sold.result)) (read_cell j r hours es from h _ lt c.index-board-seller.is) ∙ ap (k.join (cell k hours (values j es) from h)) sold in
-    let second : j.value b ≡ k.join (cell k hours (values j es) to h) (k.bought q s) =
-    c.join-in-loop-hour.ensures
-    ∙ ap (λ x. k.join x (j.value c.opposite.result))
-    (read_cell j r hours mid to h _ lm c.index-board-buyer.is
-    ∙ ap (λ vs. cell k hours vs to h) (map-set j.value es (from * hours + h) a)
-    ∙ cell_lane k hours (values j es) from h to h (j.value a) in_row in_row (λ e. c.requires.apart (sym e)))
-    ∙ ap (k.join (cell k hours (values j es) to h)) bought in
-    let cancel : k.join (k.sold q s) (k.bought q s) ≡ k.nothing =
-    ap (λ x. k.join x (k.bought q s)) (sym sold) ∙ ap (k.join (j.value c.of_quantity-sold.result)) (sym bought) ∙ c.opposite.ensures.cancels in
+    let k = meaning j g.E.Reversible in
     let met = g.met.E.Joining in
-    subst (Moved k hours from to s (λ t. get_or row t 0) (h + 1) (values j c.args.board.now))
-    (sym (map-set j.value mid (to * hours + h) b ∙ ap (λ vs. set vs (to * hours + h) (j.value b)) (map-set j.value es (from * hours + h) a)))
-    (moved_more k (record { assoc = met.assoc; comm = met.comm; unit = met.unit }) from to s hours (λ t. get_or row t 0) (values j c.args.board.now) (values j es) h (j.value a) (j.value b)
-    c.requires.apart in_row (rw length-map lt) (rw length-map lt') first second cancel c.loop-hour.invariant)
+    let laws : Laws (joins k) = record { assoc = met.assoc; comm = met.comm; unit = met.unit } in
+    let s = c.args.source in
+    let h = length c.args.quantities.now in
+    let q : ℕ → ℕ = λ t. get_or c.args.quantities.now t 0 in
+    let sells = c.join_each.ensures in
+    let buys = c.join_each-2.ensures in
+    let sold : (t : ℕ) (p : t < h) → j.value (sells t p).0 ≡ k.sold (q t) s = λ t p. let made = (sells t p).1 in search rules in
+    let bought : (t : ℕ) (p : t < h) → j.value (buys t p).0 ≡ k.bought (q t) s = λ t p. let made = (buys t p).1 in search (rules, g.met.E.Reversible.alike) parts 8 in
+    let cancels : (t : ℕ) (p : t < h) → Cancels k (q t) s = λ t p. let made = (buys t p).1 in let is = bought t p in search rules parts 8 in
+    moved_both k laws j.value c.args.from c.args.to s h q c.args.board.now c.join_each.new.lane c.join_each-2.new.lane _ _
+    c.requires.apart (omega arith) (omega arith) c.requires.leaves c.requires.enters
+    (let same = c.join_each.auto.lane in search rules)
+    (let same = c.join_each-2.auto.lane in search rules)
+    (λ t p. (sells t p).2 ∙ ap (k.join _) (sold t p))
+    (λ t p. (buys t p).2 ∙ ap (k.join _) (bought t p))
+    cancels

@@ -22,6 +22,3 @@ loop-b-preserved g c =
           (more s (seen c.loop-b.session) (seen w.answer_line.new.session) c.loop-b.invariant w.answer_line.ensures)
       | else-b-eq10 w ↦ subst (λ (x : Session). LivesThrough s (seen x)) (sym w.session-is) c.loop-b.invariant
     ]
-
-pub returns : goal.returns
-returns g c = c.loop-b.invariant

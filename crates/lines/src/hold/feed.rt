@@ -2,7 +2,7 @@ ghost use Rattle.std.specs.Prelude.{◌≡◌, ℕ, ◌<◌, ◌≤◌, List, []
 ghost use Rattle.lines.specs.Grammar.{longest, Parsed, Exact};
 ghost use Rattle.lines.specs.Held.{Holds, started};
 
-use super::{LONGEST, LineHold};
+use super::{HELD, LONGEST, LineHold};
 use crate::command::Command;
 use crate::parse::parse_line;
 
@@ -12,9 +12,8 @@ impl LineHold {
         ensures { Holds result [] }
     {
         LineHold {
-            held: [0; LONGEST],
+            held: [0; HELD],
             len: 0,
-            long: false,
         }
     }
 
@@ -22,16 +21,10 @@ impl LineHold {
     pub fn push(&mut self, b: u8)
         ensures { (t : List ℕ) → Holds self.old t → Holds self.new (t ++ b ∷ []) }
     {
-        if self.long {
-            return;
+        if self.len < HELD {
+            self.held[self.len] = b;
+            self.len += 1;
         }
-        if self.len == LONGEST {
-            self.long = true;
-            return;
-        }
-        let at = self.len;
-        self.held[at] = b;
-        self.len = at + 1;
     }
 
     // The line has ended, and another begins.
@@ -39,24 +32,23 @@ impl LineHold {
         ensures { Holds self.new [] }
     {
         self.len = 0;
-        self.long = false;
     }
 
     // Whether a byte came since the last line feed.
     pub fn is_started(&self) -> bool
         ensures { (t : List ℕ) → Holds self.now t → result ≡ started t }
     {
-        self.long || self.len > 0
+        self.len > 0
     }
 
     // The line, or nothing where it has more than 80 bytes.
     pub fn line(&self) -> Option<&[u8]>
         ensures { (t : List ℕ) → Holds self.now t → MatchOption result (longest < length t) (λ x. x.now ≡ t) }
     {
-        if self.long {
+        if self.len > LONGEST {
             return None;
         }
-        Some(&self.held[0..self.len])
+        Some(&self.held[..self.len])
     }
 
     // The command that is written on the line; a line of more than 80 bytes is none.

@@ -6,12 +6,12 @@ ghost use Rattle.ledger.specs.Checks.{certificate_refusal};
 ghost use Rattle.ledger.specs.Past.{ledger};
 ghost use Rattle.ledger.specs.Turnovers.{amount_sold, amount_bought, OfEveryLife};
 ghost use Rattle.month.specs.Line.{certificate_line};
-ghost use Rattle.month.specs.Months.{state_of};
+ghost use Rattle.month.specs.Months.{lent};
 ghost use Rattle.month.specs.Questions.{certified};
 
 use super::{Closed, Month};
 use crate::line::put_line;
-use book::contract::Contract;
+use crate::memories::Memories;
 use entry::joining::Joining;
 use scale::fault::{Fault, Reason};
 
@@ -23,21 +23,18 @@ impl Month<Closed> {
     // In every life it certifies what the ledger says that the agent sold and bought.
     pub fn certificate<E: Joining>(
         &self,
-        places: &[Contract],
-        rows: &[u32],
-        shortfalls: &[u64],
-        board: &[E],
+        memories: Memories<'_, E>,
         agent: u16,
         page: &mut [u8],
     ) -> Result<usize, Fault>
-        ensures answer { refusal_of result ≡ certificate_refusal (state_of E.Joining self.now places.now rows.now shortfalls.now board.now) agent (length page.old) }
+        ensures answer { refusal_of result ≡ certificate_refusal (lent E.Joining self.now memories.entry) agent (length page.old) }
         ensures line { MatchResult result
-            (λ n. Fronted (certified (state_of E.Joining self.now places.now rows.now shortfalls.now board.now) agent) page.old page.new n)
+            (λ n. Fronted (certified (lent E.Joining self.now memories.entry) agent) page.old page.new n)
             (λ _. page.new ≡ page.old) }
-        ensures lived { IfOk result (λ n. OfEveryLife (state_of E.Joining self.now places.now rows.now shortfalls.now board.now)
+        ensures lived { IfOk result (λ n. OfEveryLife (lent E.Joining self.now memories.entry)
             (λ past. Fronted (certificate_line agent (amount_sold (ledger past) agent) (amount_bought (ledger past) agent)) page.old page.new n)) }
     {
-        let (sold, bought) = self.turnover(places, rows, shortfalls, board, agent)?;
+        let (sold, bought) = self.turnover(memories, agent)?;
         if page.len() < PAGE {
             return Err(Fault {
                 reason: Reason::PageShort,

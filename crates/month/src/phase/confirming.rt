@@ -10,14 +10,13 @@ ghost use Rattle.ledger.specs.Calls.{enforced, put_row, rounding, Confirming};
 ghost use Rattle.ledger.specs.Checks.{confirm_refusal};
 ghost use Rattle.ledger.specs.Lives.{LeadsOn};
 ghost use Rattle.ledger.specs.Past.{confirming as confirmed};
-ghost use Rattle.month.specs.Months.{state_of};
+ghost use Rattle.month.specs.Months.{lent, state_of};
 ghost use Rattle.month.specs.Settling.{Chosen, Supplied};
 
 use super::{Month, Open};
-use crate::phase::events::{absent, next_state};
-use crate::phase::settling::shortfall_of;
+use crate::memories::Memories;
+use crate::phase::events::next_state;
 use book::contract::{Contract, Event, Number, Terms};
-use book::lookup::find;
 use book::room::has_room;
 use entry::joining::Joining;
 use entry::reversible::Reversible;
@@ -26,6 +25,7 @@ use scale::share::fill_row;
 use scale::weights::Scale;
 
 // Writes the row of a contract at its place, which counts from 0: the amount over the scale, clipped to the contract's hours.
+// What passed the check of its supply is not refused here.
 fn write_row<S: Scale>(rows: &mut [u32], index: usize, hours: usize, terms: &Terms, scale: &S)
     requires room { index * hours + hours ≤ length rows.old }
     requires supply { supply_check hours terms.now (S.Scale.weights scale.now) ≡ None }
@@ -33,40 +33,37 @@ fn write_row<S: Scale>(rows: &mut [u32], index: usize, hours: usize, terms: &Ter
     ensures { rows.new ≡ put_row hours index (shares_of rounding terms.now.amount (clipped terms.now.first terms.now.last (S.Scale.weights scale.now))) rows.old }
 {
     let start = index * hours;
-    let _ = fill_row(
+    fill_row(
         terms.amount,
         scale,
-        terms.first as usize,
-        terms.last as usize,
+        usize::from(terms.first),
+        usize::from(terms.last),
         &mut rows[start..start + hours],
-    );
+    )
+    .unwrap();
 }
 
 impl Month<Open> {
     // The checks of a confirmation in their order: the index of the contract, from 0, and the contract as it enters into force.
     fn choose_confirmation<E: Joining, S: Scale>(
         &self,
-        places: &[Contract],
-        rows: &[u32],
-        shortfalls: &[u64],
-        board: &[E],
+        memories: Memories<'_, E>,
         number: Number,
         agent: u16,
         scale: &S,
     ) -> Result<(usize, Contract), Fault>
-        ensures refused { refusal_of result ≡ confirm_refusal (state_of E.Joining self.now places.now rows.now shortfalls.now board.now) number agent (S.Scale.weights scale.now) }
-        ensures chosen { IfOk result (λ p. Chosen (state_of E.Joining self.now places.now rows.now shortfalls.now board.now) number enforced p.0 p.1) }
-        ensures supplied { IfOk result (λ p. Supplied (state_of E.Joining self.now places.now rows.now shortfalls.now board.now) (S.Scale.weights scale.now) p.0) }
+        ensures refused { refusal_of result ≡ confirm_refusal (lent E.Joining self.now memories.entry) number agent (S.Scale.weights scale.now) }
+        ensures chosen { IfOk result (λ p. Chosen (lent E.Joining self.now memories.entry) number enforced p.0 p.1) }
+        ensures supplied { IfOk result (λ p. Supplied (lent E.Joining self.now memories.entry) (S.Scale.weights scale.now) p.0) }
     {
-        self.admit(places, rows, shortfalls, board)?;
-        let Some(place) = find(&places[0..self.taken as usize], number) else {
-            return Err(absent());
-        };
-        let contract = places[place - 1];
+        let (index, contract) = self.contract_of(memories, number)?;
+        let place = index + 1;
         let state = next_state(&contract, Event::Confirmation, agent, place)?;
-        contract.terms.weigh(self.sizes.hours() as usize, scale)?;
+        contract
+            .terms
+            .weigh(usize::from(self.sizes.hours()), scale)?;
         if !has_room(
-            &places[0..self.taken as usize],
+            self.contracts(memories.places),
             contract.terms.seller,
             contract.terms.amount,
         ) {
@@ -76,7 +73,7 @@ impl Month<Open> {
             });
         }
         let entering = Contract { state, ..contract };
-        Ok((place - 1, entering))
+        Ok((index, entering))
     }
 
     // A confirmation that passed: the row is written, the contract stands in force, and its seller is resettled.
@@ -94,18 +91,29 @@ impl Month<Open> {
             (state_of E.Joining self.now places.old rows.old shortfalls.now board.old)
             (state_of E.Joining self.now places.new rows.new shortfalls.now board.new) }
     {
-        let (index, contract) = self.choose_confirmation(
-            places, rows, shortfalls, board, number, agent, scale,
-        )?;
+        let memories = Memories {
+            places,
+            rows,
+            shortfalls,
+            board,
+        };
+        let (index, contract) = self.choose_confirmation(memories, number, agent, scale)?;
         write_row(
             rows,
             index,
-            self.sizes.hours() as usize,
+            usize::from(self.sizes.hours()),
             &contract.terms,
             scale,
         );
-        let shortfall = shortfall_of(shortfalls, contract.terms.seller);
-        self.settle_at(places, index, contract, shortfall, rows, board);
+        let seller = contract.terms.seller;
+        self.resettle(
+            places,
+            Some((index, contract)),
+            seller,
+            shortfalls,
+            rows,
+            board,
+        );
         Ok(())
     }
 

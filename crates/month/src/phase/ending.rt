@@ -6,14 +6,13 @@ ghost use Rattle.ledger.specs.Calls.{ended as as_ended, Ending};
 ghost use Rattle.ledger.specs.Checks.{end_refusal};
 ghost use Rattle.ledger.specs.Lives.{LeadsOn};
 ghost use Rattle.ledger.specs.Past.{ending};
-ghost use Rattle.month.specs.Months.{state_of};
+ghost use Rattle.month.specs.Months.{lent, state_of};
 ghost use Rattle.month.specs.Settling.{Chosen};
 
 use super::{Month, Open};
-use crate::phase::events::{absent, next_state};
-use crate::phase::settling::shortfall_of;
+use crate::memories::Memories;
+use crate::phase::events::next_state;
 use book::contract::{Contract, Event, Number};
-use book::lookup::find;
 use entry::joining::Joining;
 use entry::reversible::Reversible;
 use scale::fault::Fault;
@@ -22,28 +21,21 @@ impl Month<Open> {
     // The checks of an ending in their order: the index of the contract, from 0, and the contract as it ends.
     fn choose_ending<E: Joining>(
         &self,
-        places: &[Contract],
-        rows: &[u32],
-        shortfalls: &[u64],
-        board: &[E],
+        memories: Memories<'_, E>,
         number: Number,
         agent: u16,
     ) -> Result<(usize, Contract), Fault>
-        ensures refused { refusal_of result ≡ end_refusal (state_of E.Joining self.now places.now rows.now shortfalls.now board.now) number agent }
-        ensures chosen { IfOk result (λ p. Chosen (state_of E.Joining self.now places.now rows.now shortfalls.now board.now) number as_ended p.0 p.1) }
+        ensures refused { refusal_of result ≡ end_refusal (lent E.Joining self.now memories.entry) number agent }
+        ensures chosen { IfOk result (λ p. Chosen (lent E.Joining self.now memories.entry) number as_ended p.0 p.1) }
     {
-        self.admit(places, rows, shortfalls, board)?;
-        let Some(place) = find(&places[0..self.taken as usize], number) else {
-            return Err(absent());
-        };
-        let contract = places[place - 1];
-        let state = next_state(&contract, Event::Ending, agent, place)?;
+        let (index, contract) = self.contract_of(memories, number)?;
+        let state = next_state(&contract, Event::Ending, agent, index + 1)?;
         let ended = Contract {
             effective: 0,
             state,
             ..contract
         };
-        Ok((place - 1, ended))
+        Ok((index, ended))
     }
 
     // An ending that passed: the contract stands ended, and its seller is resettled.
@@ -60,9 +52,22 @@ impl Month<Open> {
             (state_of E.Joining self.now places.old rows.now shortfalls.now board.old)
             (state_of E.Joining self.now places.new rows.now shortfalls.now board.new) }
     {
-        let (index, ended) = self.choose_ending(places, rows, shortfalls, board, number, agent)?;
-        let shortfall = shortfall_of(shortfalls, ended.terms.seller);
-        self.settle_at(places, index, ended, shortfall, rows, board);
+        let memories = Memories {
+            places,
+            rows,
+            shortfalls,
+            board,
+        };
+        let (index, ended) = self.choose_ending(memories, number, agent)?;
+        let seller = ended.terms.seller;
+        self.resettle(
+            places,
+            Some((index, ended)),
+            seller,
+            shortfalls,
+            rows,
+            board,
+        );
         Ok(())
     }
 

@@ -1,6 +1,6 @@
 // Who may bring an event about, and whether it fits the contract's state.
 ghost use Rattle.std.specs.Prelude.{◌≡◌, [], ◌∷◌, is_some, IfOk, Some};
-ghost use Rattle.scale.specs.Refusals.{first_of, refusal, refusal_of, told, unless};
+ghost use Rattle.scale.specs.Refusals.{first_of, refusal_of, unless};
 ghost use Rattle.book.specs.States.{allowed, state_after};
 
 use book::contract::{Contract, Event, State};
@@ -22,21 +22,8 @@ pub(super) fn next_state(
             spot: place,
         });
     }
-    match contract.state.after(event) {
-        Some(next) => Ok(next),
-        None => Err(Fault {
-            reason: Reason::StateUnfit,
-            spot: place,
-        }),
-    }
-}
-
-// The refusal of a number that no taken place has.
-pub(super) fn absent() -> Fault
-    ensures { told result ≡ refusal 8 0 }
-{
-    Fault {
-        reason: Reason::NumberAbsent,
-        spot: 0,
-    }
+    contract.state.after(event).ok_or(Fault {
+        reason: Reason::StateUnfit,
+        spot: place,
+    })
 }

@@ -10,6 +10,7 @@ ghost use Rattle.ledger.specs.Past.{offering};
 ghost use Rattle.month.specs.Months.{state_of};
 
 use super::{Month, Open};
+use crate::memories::Memories;
 use book::contract::{Contract, Offer};
 use book::lookup::find;
 use entry::reversible::Reversible;
@@ -42,17 +43,22 @@ impl Month<Open> {
             (state_of E.Joining self.old places.old rows.now shortfalls.now board.now)
             (state_of E.Joining self.new places.new rows.now shortfalls.now board.now) }
     {
-        self.admit(places, rows, shortfalls, board)?;
+        let memories = Memories {
+            places,
+            rows,
+            shortfalls,
+            board,
+        };
+        self.admit(memories)?;
         let terms = offer.terms(&self.sizes)?;
-        let taken = self.taken as usize;
-        unused(&places[0..taken], &offer)?;
+        unused(self.contracts(places), &offer)?;
         if self.taken >= self.sizes.places() {
             return Err(Fault {
                 reason: Reason::NoPlaceLeft,
                 spot: 0,
             });
         }
-        places[taken] = Contract::offered(terms);
+        places[usize::from(self.taken)] = Contract::offered(terms);
         self.taken += 1;
         Ok(())
     }

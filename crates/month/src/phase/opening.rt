@@ -1,5 +1,5 @@
 // Opening a month.
-ghost use Rattle.std.specs.Prelude.{◌≡◌, length, replicate, MatchResult};
+ghost use Rattle.std.specs.Prelude.{◌≡◌, length, MatchResult};
 ghost use Rattle.scale.specs.Refusals.{refusal_of};
 ghost use Rattle.entry.specs.Kinds.{meaning};
 ghost use Rattle.book.specs.Sizing.{Holds};
@@ -10,20 +10,12 @@ ghost use Rattle.month.specs.Months.{state_of};
 
 use super::{Month, Open};
 use crate::lengths::check_lengths;
+use crate::memories::Memories;
 use book::contract::Contract;
 use book::sizes::Sizes;
 use entry::reversible::Reversible;
 use scale::fault::Fault;
 use std::marker::PhantomData;
-
-// Writes one value into every element.
-fn fill<T: Copy>(memory: &mut [T], value: T)
-    ensures { memory.new ≡ replicate (length memory.old) value }
-{
-    for element in memory.iter_mut() {
-        *element = value;
-    }
-}
 
 impl Month<Open> {
     // Opens a month: no place is taken, every shortfall is 0 and every entry empty; places and rows stay as they are.
@@ -43,15 +35,17 @@ impl Month<Open> {
             (λ _. (shortfalls.new ≡ shortfalls.old) × (board.new ≡ board.old)) }
     {
         let sizes = Sizes::new(agents, hours, size)?;
-        check_lengths(
-            &sizes,
-            places.len(),
-            rows.len(),
-            shortfalls.len(),
-            board.len(),
-        )?;
-        fill(shortfalls, 0);
-        fill(board, E::empty());
+        let memories = Memories {
+            places,
+            rows,
+            shortfalls,
+            board,
+        };
+        check_lengths(&sizes, memories)?;
+        shortfalls.fill(0);
+        // `fill` would ask that a clone never fails, which a kind of entry does not say.
+        let empty = E::empty();
+        board.fill_with(|| empty);
         Ok(Month {
             sizes,
             taken: 0,

@@ -1,10 +1,9 @@
 // Positions: the entries of the board, which need no other memory.
-ghost use Rattle.std.specs.Prelude.{◌≡◌, suc, true, map, length, get_or, IfOk, nat_eq, slice_index_or};
-ghost use Rattle.scale.specs.Refusals.{refusal_of};
+ghost use Rattle.std.specs.Prelude.{◌≡◌, ◌≤◌, suc, length, get_or, IfOk, slice_index_or};
+ghost use Rattle.scale.specs.Refusals.{refusal_of, unless};
 ghost use Rattle.entry.specs.Kinds.{joins_in, meaning, up_to, values};
-ghost use Rattle.entry.specs.Meanings.{by_source_kind, by_source_value, net_kind, net_value};
+ghost use Rattle.book.specs.Limits.{between};
 ghost use Rattle.ledger.specs.Checks.{balance_refusal, position_refusal};
-ghost use Rattle.ledger.specs.Differences.{difference_in};
 ghost use Rattle.ledger.specs.Past.{ledger, position_in};
 ghost use Rattle.month.specs.Questions.{entry_index, InEveryLife};
 
@@ -12,12 +11,30 @@ use super::Month;
 use crate::lengths::check_board;
 use book::limit::limit;
 use entry::joining::Joining;
-use entry::kinds::{BySource, Net};
 use entry::reversible::Reversible;
 use entry::total::total;
+use ledger::counted::Counted;
 use scale::fault::{Fault, Reason};
 
+// Refuses a submarket that there is not. Calls have it as different fields.
+fn check_submarket(submarket: u16, field: usize) -> Result<(), Fault>
+    ensures { refusal_of result ≡ unless (between 1 4 submarket) 4 field }
+{
+    limit(u32::from(submarket), 1, 4, Reason::FieldOutside, field)
+}
+
 impl<P> Month<P> {
+    // Where the entry of an agent at a submarket and hour, all from 1, stands on the board.
+    fn index_of(&self, agent: u16, submarket: u16, hour: u16) -> usize
+        requires agent { 1 ≤ agent }
+        requires submarket { 1 ≤ submarket }
+        requires hour { 1 ≤ hour }
+        ensures { result ≡ entry_index self.now.sizes agent submarket hour }
+    {
+        let lane = (usize::from(agent) - 1) * 4 + (usize::from(submarket) - 1);
+        lane * usize::from(self.sizes.hours()) + (usize::from(hour) - 1)
+    }
+
     // The board's entry of an agent at a submarket and hour.
     fn entry_at<E: Joining>(
         &self,
@@ -30,18 +47,10 @@ impl<P> Month<P> {
         ensures entry { IfOk result (λ e. e ≡ slice_index_or board.now (entry_index self.now.sizes agent submarket hour) e) }
     {
         check_board(&self.sizes, board.len())?;
-        let hours = self.sizes.hours();
-        limit(
-            agent as u32,
-            1,
-            self.sizes.agents() as u32,
-            Reason::FieldOutside,
-            1,
-        )?;
-        limit(submarket as u32, 1, 4, Reason::FieldOutside, 2)?;
-        limit(hour as u32, 1, hours as u32, Reason::FieldOutside, 3)?;
-        let lane = (agent as usize - 1) * 4 + (submarket as usize - 1);
-        Ok(board[lane * hours as usize + (hour as usize - 1)])
+        self.check_agent(agent)?;
+        check_submarket(submarket, 2)?;
+        self.check_hour(hour, 3)?;
+        Ok(board[self.index_of(agent, submarket, hour)])
     }
 
     // The entries of all agents at a submarket and hour, joined by the total that serves every joining kind.
@@ -51,11 +60,12 @@ impl<P> Month<P> {
             (λ a. get_or (values E.Joining board.now) (entry_index self.now.sizes (suc a) submarket hour) E.Joining.nothing)) }
     {
         check_board(&self.sizes, board.len())?;
-        let hours = self.sizes.hours() as usize;
-        limit(submarket as u32, 1, 4, Reason::FieldOutside, 1)?;
-        limit(hour as u32, 1, hours as u32, Reason::FieldOutside, 2)?;
-        let first = (submarket as usize - 1) * hours + (hour as usize - 1);
-        Ok(total(board, first, 4 * hours, self.sizes.agents() as usize))
+        check_submarket(submarket, 1)?;
+        self.check_hour(hour, 2)?;
+        let first = self.index_of(1, submarket, hour);
+        let hours = usize::from(self.sizes.hours());
+        let agents = usize::from(self.sizes.agents());
+        Ok(total(board, first, 4 * hours, agents))
     }
 
     // An agent's position: the board's entry at a submarket and hour. In every life it means the ledger's position.
@@ -85,37 +95,21 @@ impl<P> Month<P> {
         self.joined_at(board, submarket, hour)
     }
 
-    // A net position as a number. In every life it is the true difference of what the agent sold and bought there: nothing wraps.
-    pub fn net_position(
+    // A position as the numbers of its entry. In every life they are the true differences of what the agent sold and bought
+    // there: nothing wraps.
+    pub fn true_position<E: Counted>(
         &self,
-        board: &[Net],
+        board: &[E],
         agent: u16,
         submarket: u16,
         hour: u16,
-    ) -> Result<Net, Fault>
+    ) -> Result<E, Fault>
         ensures answer { refusal_of result ≡ position_refusal self.now.sizes (length board.now) agent submarket hour }
         ensures entry { IfOk result (λ e. e ≡ slice_index_or board.now (entry_index self.now.sizes agent submarket hour) e) }
-        ensures lived { IfOk result (λ e. InEveryLife net_kind self.now.sizes (map net_value board.now)
-            (λ past. e.units ≡ difference_in (ledger past) (λ _. true) agent submarket hour)) }
-    {
-        let net = self.entry_at(board, agent, submarket, hour)?;
-        Ok(net)
-    }
-
-    // The same by source: the difference of the conventional quantities, and that of the incentivised ones.
-    pub fn position_by_source(
-        &self,
-        board: &[BySource],
-        agent: u16,
-        submarket: u16,
-        hour: u16,
-    ) -> Result<BySource, Fault>
-        ensures answer { refusal_of result ≡ position_refusal self.now.sizes (length board.now) agent submarket hour }
-        ensures entry { IfOk result (λ e. e ≡ slice_index_or board.now (entry_index self.now.sizes agent submarket hour) e) }
-        ensures lived { IfOk result (λ e. InEveryLife by_source_kind self.now.sizes (map by_source_value board.now)
-            (λ past. (e.conventional ≡ difference_in (ledger past) (nat_eq 0) agent submarket hour) × (e.incentivised ≡ difference_in (ledger past) (nat_eq 1) agent submarket hour))) }
+        ensures lived { IfOk result (λ e. InEveryLife (meaning E.Joining E.Reversible.own) self.now.sizes (values E.Joining board.now)
+            (λ past. e ≡ E.difference (ledger past) agent submarket hour)) }
     {
         let entry = self.entry_at(board, agent, submarket, hour)?;
-        Ok(entry)
+        Ok(entry.exact())
     }
 }

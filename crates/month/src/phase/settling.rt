@@ -1,80 +1,50 @@
 // A seller is resettled: its effective amounts, the places and the board.
-ghost use Rattle.std.specs.Prelude.{◌≡◌, ◌-◌, ◌<◌, ◌≤◌, length, take, slice_index, slice_set};
+ghost use Rattle.std.specs.Prelude.{◌≡◌, ◌-◌, ◌<◌, ◌≤◌, length, take, slice_index, IfSome};
 ghost use Rattle.entry.specs.Kinds.{meaning, values};
 ghost use Rattle.book.specs.Limits.{most_total};
 ghost use Rattle.book.specs.Sound.{seller_total};
 ghost use Rattle.month.specs.Settling.{Settled};
-ghost use Rattle.settle.specs.Settled.{Ready};
+ghost use Rattle.settle.specs.Settled.{marked, Ready};
 
 use super::Month;
 use book::contract::Contract;
 use entry::joining::Joining;
 use entry::reversible::Reversible;
-use settle::{settle_all, settle_place};
+use settle::settle;
 
 // The shortfall of an agent, who counts from 1.
-pub(super) fn shortfall_of(shortfalls: &[u64], agent: u16) -> u64
+fn shortfall_of(shortfalls: &[u64], agent: u16) -> u64
     ensures { result ≡ slice_index shortfalls.now (agent - 1) }
 {
-    let index = (agent as usize).saturating_sub(1);
-    if index < shortfalls.len() {
-        shortfalls[index]
-    } else {
-        0
-    }
+    let index = usize::from(agent).saturating_sub(1);
+    shortfalls.get(index).copied().unwrap_or(0)
 }
 
 impl<P> Month<P> {
-    // After an event that left `changed` at a place.
-    pub(super) fn settle_at<E: Reversible>(
+    // After an event that left a contract changed at its index, or none but by the cuts.
+    pub(super) fn resettle<E: Reversible>(
         &self,
         places: &mut [Contract],
-        index: usize,
-        changed: Contract,
-        shortfall: u64,
-        rows: &[u32],
-        board: &mut [E],
-    )
-        requires room { self.now.taken ≤ length places.old }
-        requires inside { index < self.now.taken }
-        requires ready { Ready self.now.sizes (take self.now.taken places.old) (slice_set (take self.now.taken places.old) index changed) rows.now (length board.old) }
-        requires moderate { seller_total changed.terms.seller (slice_set (take self.now.taken places.old) index changed) ≤ most_total }
-        ensures { Settled (meaning E.Joining E.Reversible.own) self.now.sizes self.now.taken changed.terms.seller shortfall
-            (slice_set (take self.now.taken places.old) index changed) rows.now
-            places.old places.new (values E.Joining board.old) (values E.Joining board.new) }
-    {
-        settle_place(
-            &self.sizes,
-            &mut places[0..self.taken as usize],
-            index,
-            changed,
-            shortfall,
-            rows,
-            board,
-        );
-    }
-
-    // After a shortfall was told.
-    pub(super) fn settle_seller<E: Reversible>(
-        &self,
-        places: &mut [Contract],
+        changed: Option<(usize, Contract)>,
         seller: u16,
-        shortfall: u64,
+        shortfalls: &[u64],
         rows: &[u32],
         board: &mut [E],
     )
         requires room { self.now.taken ≤ length places.old }
-        requires ready { Ready self.now.sizes (take self.now.taken places.old) (take self.now.taken places.old) rows.now (length board.old) }
-        requires moderate { seller_total seller (take self.now.taken places.old) ≤ most_total }
-        ensures { Settled (meaning E.Joining E.Reversible.own) self.now.sizes self.now.taken seller shortfall
-            (take self.now.taken places.old) rows.now
+        requires inside { IfSome changed (λ change. change.0 < self.now.taken) }
+        requires ready { Ready self.now.sizes (take self.now.taken places.old) (marked changed (take self.now.taken places.old)) rows.now (length board.old) }
+        requires moderate { seller_total seller (marked changed (take self.now.taken places.old)) ≤ most_total }
+        ensures { Settled (meaning E.Joining E.Reversible.own) self.now.sizes self.now.taken seller (slice_index shortfalls.now (seller - 1))
+            (marked changed (take self.now.taken places.old)) rows.now
             places.old places.new (values E.Joining board.old) (values E.Joining board.new) }
     {
-        settle_all(
+        settle(
             &self.sizes,
-            &mut places[0..self.taken as usize],
+            &mut places[..usize::from(self.taken)],
+            changed,
             seller,
-            shortfall,
+            shortfall_of(shortfalls, seller),
             rows,
             board,
         );

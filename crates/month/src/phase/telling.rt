@@ -1,5 +1,4 @@
 // Telling a shortfall.
-ghost use Rattle.std.specs.Prelude.{◌≡◌};
 ghost use Rattle.scale.specs.Refusals.{refusal_of};
 ghost use Rattle.entry.specs.Kinds.{meaning};
 ghost use Rattle.ledger.specs.Calls.{Telling};
@@ -8,8 +7,8 @@ ghost use Rattle.ledger.specs.Past.{telling};
 ghost use Rattle.month.specs.Months.{state_of};
 
 use super::{Month, Open};
+use crate::memories::Memories;
 use book::contract::Contract;
-use book::limit::limit;
 use book::sound::moderate;
 use entry::reversible::Reversible;
 use scale::fault::{Fault, Reason};
@@ -29,22 +28,22 @@ impl Month<Open> {
             (state_of E.Joining self.now places.old rows.now shortfalls.old board.old)
             (state_of E.Joining self.now places.new rows.now shortfalls.new board.new) }
     {
-        self.admit(places, rows, shortfalls, board)?;
-        limit(
-            agent as u32,
-            1,
-            self.sizes.agents() as u32,
-            Reason::FieldOutside,
-            1,
-        )?;
+        let memories = Memories {
+            places,
+            rows,
+            shortfalls,
+            board,
+        };
+        self.admit(memories)?;
+        self.check_agent(agent)?;
         if !moderate(kwh) {
             return Err(Fault {
                 reason: Reason::ShortfallOverLimit,
                 spot: 0,
             });
         }
-        shortfalls[agent as usize - 1] = kwh;
-        self.settle_seller(places, agent, kwh, rows, board);
+        shortfalls[usize::from(agent) - 1] = kwh;
+        self.resettle(places, None, agent, shortfalls, rows, board);
         Ok(())
     }
 

@@ -1,5 +1,5 @@
 // What a line does to a session's month, and what is replied.
-ghost use Rattle.std.specs.Prelude.{◌≡◌, ◌≤◌, length};
+ghost use Rattle.std.specs.Prelude.{◌≡◌, ◌≤◌};
 ghost use Rattle.scale.specs.Refusals.{refusal_of};
 ghost use Rattle.entry.specs.Kinds.{meaning};
 ghost use Rattle.page.specs.Page.{Fronted};
@@ -21,23 +21,14 @@ pub(crate) fn put_ack(page: &mut [u8; ROOM], answer: Result<(), Fault>) -> usize
     ensures put { Fronted (ack (refusal_of answer)) page.old page.new result }
     ensures within { result ≤ 64 }
 {
-    match answer {
-        Ok(()) => put_reply(page, Reply::Done),
-        Err(fault) => put_reply(page, Reply::of_fault(fault)),
-    }
+    put_reply(page, Reply::from(answer))
 }
 
-impl Desk {
+impl<E: Shown> Desk<E> {
     // Answers a command other than one that opens: for every kind of entry, one text.
-    pub(crate) fn answer<E: Shown>(
-        &mut self,
-        board: &mut [E],
-        command: Command,
-        page: &mut [u8; ROOM],
-    ) -> usize
-        requires board { length board.old ≡ 384 }
-        ensures does { Replied (λ line. DeskTurned (meaning E.Joining E.Reversible.own) (showing_of E.Joining E.Shown.own) command
-            (held_of E.Joining self.old board.old) line (held_of E.Joining self.new board.new))
+    pub(crate) fn answer(&mut self, command: Command, page: &mut [u8; ROOM]) -> usize
+        ensures does { Replied (λ line. DeskTurned (meaning E.Joining E.Reversible.own) (showing_of E.Joining E.Counted.own E.Shown.own) command
+            (held_of E.Joining self.old) line (held_of E.Joining self.new))
             page.old page.new result }
         ensures within { result ≤ 64 }
     {
@@ -64,22 +55,22 @@ impl Desk {
                     last,
                     amount,
                 };
-                put_ack(page, self.offer(board, offer))
+                put_ack(page, self.offer(offer))
             }
-            Command::Confirm { number, agent } => put_ack(page, self.confirm(board, number, agent)),
-            Command::End { number, agent } => put_ack(page, self.end(board, number, agent)),
-            Command::Tell { agent, kwh } => put_ack(page, self.tell(board, agent, kwh)),
+            Command::Confirm { number, agent } => put_ack(page, self.confirm(number, agent)),
+            Command::End { number, agent } => put_ack(page, self.end(number, agent)),
+            Command::Tell { agent, kwh } => put_ack(page, self.tell(agent, kwh)),
             Command::Position {
                 agent,
                 submarket,
                 hour,
-            } => match self.position(board, agent, submarket, hour) {
-                Ok(reply) => put_reply(page, reply),
-                Err(fault) => put_reply(page, Reply::of_fault(fault)),
-            },
-            Command::Certificate { agent } => match self.certificate(board, agent, page) {
+            } => {
+                let answer = self.position(agent, submarket, hour);
+                put_reply(page, answer.unwrap_or_else(Reply::from))
+            }
+            Command::Certificate { agent } => match self.certificate(agent, page) {
                 Ok(n) => n,
-                Err(fault) => put_reply(page, Reply::of_fault(fault)),
+                Err(fault) => put_reply(page, Reply::from(fault)),
             },
             Command::Close => put_ack(page, self.close()),
             Command::Open { .. } => put_ack(page, Err(OUT_OF_TURN)),

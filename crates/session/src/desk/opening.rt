@@ -1,22 +1,18 @@
 // Opening a session's month, and closing it.
-ghost use Rattle.std.specs.Prelude.{◌≡◌, length, IfOk, None};
+ghost use Rattle.std.specs.Prelude.{◌≡◌, IfOk};
 ghost use Rattle.scale.specs.Refusals.{refusal_of};
 ghost use Rattle.entry.specs.Kinds.{meaning};
-ghost use Rattle.scale.specs.Refusals.{first_of};
-ghost use Rattle.book.specs.Sizing.{Holds, size_checks};
-ghost use Rattle.ledger.specs.Calls.{Opened};
-ghost use Rattle.ledger.specs.Lives.{Begins};
-ghost use Rattle.session.specs.Held.{held_of, lent_to};
-ghost use Rattle.session.specs.Opening.{memory_check, opening_refusal, Begun, LongAs};
+ghost use Rattle.session.specs.Held.{held_of};
+ghost use Rattle.session.specs.Opening.{memory_check, opening_refusal, Fresh, LongAs};
 ghost use Rattle.session.specs.Closing.{Shut, is_idle, taken_at};
 
-use super::calls::{OUT_OF_TURN, put_back};
-use super::{AGENTS, Desk, HOURS, Lengths, PLACES, ROWS};
+use super::calls::OUT_OF_TURN;
+use super::{AGENTS, Desk, ENTRIES, HOURS, Lengths, PLACES, ROWS};
 use crate::stage::Stage;
-use book::contract::{BLANK, Contract};
+use book::contract::BLANK;
 use book::sizes::Sizes;
 use entry::reversible::Reversible;
-use month::phase::{Month, Open};
+use month::phase::Month;
 use scale::fault::{Fault, Reason};
 use std::mem::replace;
 
@@ -44,48 +40,20 @@ impl Lengths {
     }
 }
 
-// Lends the front of each memory to open a month.
-fn open_on<E: Reversible>(
-    agents: u16,
-    hours: u16,
-    size: u16,
-    lengths: Lengths,
-    places: &[Contract],
-    rows: &[u32],
-    shortfalls: &mut [u64],
-    board: &mut [E],
-) -> Result<Month<Open>, Fault>
-    requires places { length places.now ≡ 16 }
-    requires rows { length rows.now ≡ 384 }
-    requires shortfalls { length shortfalls.old ≡ 4 }
-    requires board { length board.old ≡ 384 }
-    requires long { LongAs agents hours size lengths }
-    requires lawful { first_of (size_checks agents hours size) ≡ None }
-    ensures accepted { refusal_of result ≡ None }
-    ensures opened { IfOk result (λ m. Holds m.sizes agents hours size
-        × Opened (meaning E.Joining E.Reversible.own) (lent_to E.Joining m lengths places.now rows.now shortfalls.new board.new)
-        × Begins (meaning E.Joining E.Reversible.own) (lent_to E.Joining m lengths places.now rows.now shortfalls.new board.new)) }
+// Puts a stage in the place of one that was taken out. A month is not let go by oversight, so no assignment does this.
+fn put_back(stage: &mut Stage, next: Stage)
+    requires { stage.old ≡ Stage.Idle }
+    ensures { stage.new ≡ next }
 {
-    let Lengths {
-        places: n,
-        rows: m,
-        shortfalls: a,
-        entries: b,
-    } = lengths;
-    Month::open(
-        agents,
-        hours,
-        size,
-        &places[..n],
-        &rows[..m],
-        &mut shortfalls[..a],
-        &mut board[..b],
-    )
+    match replace(stage, next) {
+        Stage::Idle => {}
+        _ => unreachable(),
+    }
 }
 
-impl Desk {
+impl<E: Reversible> Desk<E> {
     // No month, and memory that means nothing yet.
-    pub(crate) fn new() -> Desk
+    pub(crate) fn new() -> Desk<E>
         ensures { result.stage ≡ Stage.Idle }
     {
         Desk {
@@ -99,16 +67,14 @@ impl Desk {
             places: [BLANK; PLACES],
             rows: [0; ROWS],
             shortfalls: [0; AGENTS],
+            board: [E::empty(); ENTRIES],
         }
     }
 
     pub(crate) fn is_idle(&self) -> bool
         ensures { result ≡ is_idle self.now.stage }
     {
-        match &self.stage {
-            Stage::Idle => true,
-            _ => false,
-        }
+        matches!(&self.stage, Stage::Idle)
     }
 
     // Puts the month away for good, and answers how many places it had taken.
@@ -121,6 +87,7 @@ impl Desk {
             places: _,
             rows: _,
             shortfalls: _,
+            board: _,
         } = self;
         match stage {
             Stage::Idle => 0,
@@ -129,34 +96,34 @@ impl Desk {
         }
     }
 
-    // Opens a month on the memory and a board, where there is none yet.
-    pub(crate) fn open<E: Reversible>(
-        &mut self,
-        board: &mut [E],
-        agents: u16,
-        hours: u16,
-        size: u16,
-    ) -> Result<(), Fault>
-        requires idle { self.old.stage ≡ Stage.Idle }
-        requires board { length board.old ≡ 384 }
+    // Opens a month on the front of each memory.
+    pub(crate) fn open(agents: u16, hours: u16, size: u16) -> Result<Desk<E>, Fault>
         ensures refused { refusal_of result ≡ opening_refusal agents hours size }
-        ensures begun { Begun (meaning E.Joining E.Reversible.own) agents hours size (refusal_of result) (held_of E.Joining self.new board.new) }
+        ensures begun { IfOk result (λ desk. Fresh (meaning E.Joining E.Reversible.own) agents hours size (held_of E.Joining desk)) }
     {
         Sizes::new(agents, hours, size)?;
         let lengths = Lengths::of(agents, hours, size)?;
-        let month = open_on(
+        let places = [BLANK; PLACES];
+        let rows = [0; ROWS];
+        let mut shortfalls = [0; AGENTS];
+        let mut board = [E::empty(); ENTRIES];
+        let month = Month::open(
             agents,
             hours,
             size,
-            lengths,
-            &self.places,
-            &self.rows,
-            &mut self.shortfalls,
-            board,
+            &places[..lengths.places],
+            &rows[..lengths.rows],
+            &mut shortfalls[..lengths.shortfalls],
+            &mut board[..lengths.entries],
         )?;
-        self.lengths = lengths;
-        put_back(&mut self.stage, Stage::Open(month));
-        Ok(())
+        Ok(Desk {
+            stage: Stage::Open(month),
+            lengths,
+            places,
+            rows,
+            shortfalls,
+            board,
+        })
     }
 
     // Closes the month if it is open.

@@ -1,4 +1,4 @@
-use Rattle.std.proofs.Common.{◌≡◌, ℕ, ◌-◌, List, map, length, get_or, take, replicate, sum, ap, ◌∙◌, arith}
+use Rattle.std.proofs.Common.{ℕ, List, map, length, get_or, sum, ap, ◌∙◌, arith}
 use Rattle.std.proofs.lemmas.List.{take-replicate}
 use Rattle.scale.specs.Shares.{down_to}
 use Rattle.scale.proofs.Running.{down_sound, length_shared}
@@ -10,12 +10,10 @@ use Rattle.book.proofs.cuts.cut_class.Goals as goal
 
 pub share_cut-requires : goal.share_cut-requires
 share_cut-requires c =
-    let n = length c.args.taken.now in
-    let all : n - 0 ≡ n = omega arith in
     record {
       most = c.requires.most;
       moderate = c.requires.moderate;
-      zeros = ap (λ (k : ℕ). take k (replicate {A = ℕ} 256 0)) all ∙ take-replicate n 256 0 c.requires.places;
+      zeros = take-replicate (length c.args.taken.now) 256 0 c.requires.places;
     }
 
 pub leave_each-requires : goal.leave_each-requires

@@ -1,16 +1,9 @@
-use Rattle.std.proofs.Common.{sym, ◌∙◌}
-use Rattle.std.proofs.lemmas.List.{at_drop_all}
-use Rattle.book.specs.Sound.{each_moderate}
-use Rattle.book.proofs.Checking.{moderate_more, moderate_not}
+use Rattle.std.proofs.Common.{◌≤◌, get_or, rules, IsTrue, ◌↔◌, EachIndex}
+use Rattle.book.specs.Limits.{most_total}
+use Rattle.book.proofs.Passing.{moderate_told}
 use Rattle.book.proofs.sound.all_moderate.Goals as goal
 
-pub returns-then-not-moderate : goal.returns-then-not-moderate
-returns-then-not-moderate c =
-    sym (moderate_not _ _ c.loop-shortfall-test.true (sym c.if-not-moderate.ensures)) ∙ c.loop-shortfall.invariant
-
-pub loop-shortfall-preserved : goal.loop-shortfall-preserved
-loop-shortfall-preserved c =
-    sym (moderate_more _ _ c.loop-shortfall-test.true (sym c.if-not-moderate.ensures)) ∙ c.loop-shortfall.invariant
-
 pub returns : goal.returns
-returns c = sym (at_drop_all each_moderate _ _ c.loop-shortfall-test.false) ∙ c.loop-shortfall.invariant
+returns c =
+    let each : IsTrue c.all.result ↔ EachIndex c.args.shortfalls.now (λ k. get_or c.args.shortfalls.now k 0 ≤ most_total) = search rules in
+    moderate_told _ _ each

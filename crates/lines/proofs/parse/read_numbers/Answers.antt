@@ -1,28 +1,37 @@
-use Rattle.std.proofs.Common.{refl, ◌∙◌, arith, length-set, length-take-le}
-use Rattle.std.proofs.lemmas.List.{take_more_set}
-use Rattle.lines.proofs.Spelled.{cut_at, too_many, no_space, no_number, one_more, done}
+use Rattle.std.proofs.Common.{◌≡◌, ◌^◌, ◌<◌, refl, ap, ◌++◌, decimal, Some, length, [], ◌∷◌, arith, rules, tests}
+use Rattle.std.proofs.lemmas.List.{length-map, nil_from_length}
+use Rattle.std.proofs.lemmas.Iterator.Consumers.{YieldsList-turn, YieldsList-end}
+use Rattle.lines.proofs.Spelled.{from_split, only, starts_empty, in_all, a_number, said, wide_push}
 use Rattle.lines.proofs.parse.read_numbers.Goals as goal
 
-pub returns-then-count-eq9 : goal.returns-then-count-eq9
-returns-then-count-eq9 c = λ ns w few e. too_many c.loop-rest.invariant.2 c.loop-rest-test.true ns w e (omega (arith, length-take-le c.loop-rest.count c.loop-rest.values (omega arith)))
+pub returns-then-not-is_empty : goal.returns-then-not-is_empty
+returns-then-not-is_empty c =
+    let all = from_split c.split-words.ensures.runs c.args.text.now c.split-words.ensures.rest c.split-words.ensures.done c.split-words.ensures.closure (λ x r q k. search (rules, tests)) in
+    let turn = YieldsList-turn all [] _ refl (Some c.in_ok-next.field-0) c.next.new.self c.in_ok-next.field-0 refl c.in_ok-next.ensures.steps in
+    λ ns w few e. let none = ap length (starts_empty c.args.text.now ns w e c.in_ok-next.field-0.now turn.1) in grind (arith, tests)
 
-pub returns-then-rest-ne32 : goal.returns-then-rest-ne32
-returns-then-rest-ne32 c = λ ns w few e. no_space c.loop-rest.invariant.2 c.loop-rest-test.true ns w e c.if-rest-ne32.true
+pub returns-in_err-number : goal.returns-in_err-number
+returns-in_err-number c =
+    let all = from_split c.split-words.ensures.runs c.args.text.now c.split-words.ensures.rest c.split-words.ensures.done c.split-words.ensures.closure (λ x r q k. search (rules, tests)) in
+    let turn = YieldsList-turn all (c.in_ok-next.field-0 ∷ c.loop-word.yielded) _ (_, c.in_ok-next.ensures.steps, rw c.into_iter-word-iterator.ensures.into_iter_gives at c.loop-word.yielded_by) (Some c.in-Some.word) c.next-in-loop-word.new.self c.in-Some.word refl c.in-Some.ensures.steps in
+    simp c.from_residual-in_err-number.ensures (λ ns w few e. a_number c.args.text.now ns w e _ _ turn c.in_err-number.ensures)
 
-pub returns-in_err-n : goal.returns-in_err-n
-returns-in_err-n c =
-    let cut = cut_at _ _ _ _ _ c.loop-rest-test.true c.if-rest-ne32.false refl c.split_at.ensures.front c.split_at.ensures.back c.word_len.ensures.within c.word_len.ensures.solid c.word_len.ensures.stops in
-    simp c.from_residual.ensures (λ ns w few e. no_number c.loop-rest.invariant.2 c.loop-rest-test.true ns w e _ _ cut.whole cut.solid cut.ends c.in_err-n.ensures)
+pub loop-word-preserved : goal.loop-word-preserved
+loop-word-preserved c =
+    let n = c.in_ok-number.field-0 in
+    let small : n < 2 ^ 64 = search rules in
+    let items : c.try_push.new.self.items ≡ c.loop-word.numbers.items ++ n ∷ [] = search (rules, c.try_push.ensures.ok) in
+    rw items (said (λ x. x.now) c.loop-word.yielded c.in-Some.word c.loop-word.numbers.items n c.loop-word.invariant.0 c.in_ok-number.ensures, wide_push c.loop-word.numbers.items n c.loop-word.invariant.1 small)
 
-pub loop-rest-preserved : goal.loop-rest-preserved
-loop-rest-preserved c =
-    let cut = cut_at _ _ _ _ _ c.loop-rest-test.true c.if-rest-ne32.false refl c.split_at.ensures.front c.split_at.ensures.back c.word_len.ensures.within c.word_len.ensures.solid c.word_len.ensures.stops in
-    let n = c.in_ok-n.n in (
-      omega arith,
-      length-set _ _ _ ∙ c.loop-rest.invariant.1,
-      rw (take_more_set c.loop-rest.values c.loop-rest.count n (omega arith))
-          (one_more _ _ _ _ _ n c.loop-rest.invariant.2 c.loop-rest-test.true cut.whole cut.solid cut.ends (omega arith) c.in_ok-n.ensures),
-    )
+pub returns-in_err-ok : goal.returns-in_err-ok
+returns-in_err-ok c =
+    let all = from_split c.split-words.ensures.runs c.args.text.now c.split-words.ensures.rest c.split-words.ensures.done c.split-words.ensures.closure (λ x r q k. search (rules, tests)) in
+    let turn = YieldsList-turn all (c.in_ok-next.field-0 ∷ c.loop-word.yielded) _ (_, c.in_ok-next.ensures.steps, rw c.into_iter-word-iterator.ensures.into_iter_gives at c.loop-word.yielded_by) (Some c.in-Some.word) c.next-in-loop-word.new.self c.in-Some.word refl c.in-Some.ensures.steps in
+    simp c.from_residual-in_err-ok.ensures (λ ns w few e. let l = in_all c.args.text.now ns w e _ _ turn in let f : length c.loop-word.numbers.items ≡ 9 = search (rules, c.try_push.ensures.full) in omega (arith, ap length c.loop-word.invariant.0, length-map c.loop-word.yielded (λ x. x.now), length-map c.loop-word.numbers.items decimal))
 
 pub returns : goal.returns
-returns c = done _ _ _ c.loop-rest.invariant.2 (omega arith)
+returns c =
+    let all = from_split c.split-words.ensures.runs c.args.text.now c.split-words.ensures.rest c.split-words.ensures.done c.split-words.ensures.closure (λ x r q k. search (rules, tests)) in
+    let end = YieldsList-end all (c.in_ok-next.field-0 ∷ c.loop-word.yielded) _ (_, c.in_ok-next.ensures.steps, rw c.into_iter-word-iterator.ensures.into_iter_gives at c.loop-word.yielded_by) _ c.next-in-loop-word.new.self c.in-None.is c.next-in-loop-word.ensures.steps in
+    let none : c.in_ok-next.field-0.now ≡ [] = nil_from_length _ (grind (arith, tests)) in
+    only c.args.text.now c.loop-word.numbers.items c.loop-word.invariant.1 (let e = end.0 in let h = c.loop-word.invariant.0 in cc)

@@ -1,9 +1,6 @@
-use Rattle.std.proofs.Common.{◌≡◌, ◌≤◌, length, take}
-use Rattle.lines.proofs.Spelled.{Sofar}
+use Rattle.std.proofs.Common.{◌≡◌, map, decimal}
+use Rattle.lines.specs.Grammar.{AllWide}
 use Rattle.lines.proofs.parse.read_numbers.Given as goal
 
-abbrev pub invariant-loop-rest : goal.invariant-loop-rest
-invariant-loop-rest l = (l.count ≤ 9) × (length l.values ≡ 9) × Sofar l.text (take l.count l.values) l.rest
-
-abbrev pub decreases-loop-rest : goal.decreases-loop-rest
-decreases-loop-rest l = length l.rest
+abbrev pub invariant-loop-word : goal.invariant-loop-word
+invariant-loop-word l = (map (λ x. x.now) l.yielded ≡ map decimal l.numbers.items) × AllWide l.numbers.items

@@ -1,34 +1,42 @@
-use Rattle.std.proofs.Common.{◌≡◌, suc, ◌+◌, ◌<◌, length, take, Some, sum, sym, ap, ◌∙◌, add-one, arith}
-use Rattle.std.proofs.lemmas.List.{take_all}
-use Rattle.scale.specs.Refusals.{refusal}
-use Rattle.scale.proofs.Parts.{total_next}
-use Rattle.scale.proofs.Totals.{passes_from, passes_is, check_empty, check_fine, told}
+use Rattle.std.proofs.Common.{◌≡◌, ◌+◌, ◌-◌, ◌≤◌, take, sum, sym, ap, arith}
+use Rattle.scale.specs.Totals.{limit, Passes}
+use Rattle.scale.proofs.Parts.{total_at, total_past}
+use Rattle.scale.proofs.Totals.{take_rising, passes_is, check_empty, check_fine, told}
 use Rattle.scale.proofs.total.total.Goals as goal
+use Rattle.scale.proofs.total.total.Goals.{else-loop-part-test, then-loop-part-test+else-weight-so_far+else-part-part-end}
 
 pub returns-then-weight-so_far : goal.returns-then-weight-so_far
 returns-then-weight-so_far g c =
     let ws = g.S.Scale.weights c.args.scale.now in
-    let i = c.loop-i.i in
-    let lt : i < length ws = omega arith in
-    let next = total_next ws i lt in
-    let same : sum (take (suc i) ws) ≡ sum (take (i + 1) ws) = ap (λ k. sum (take k ws)) (sym (add-one i)) in
-    record { answer = ap (λ k. Some (refusal 13 k)) (add-one i) ∙ sym (passes_is ws (suc i) (passes_from ws i lt (omega arith) (omega arith))); value = tt; law = told ws }
+    let p = c.loop-part.part in
+    let next = total_at ws p (omega arith) (omega arith) in
+    let passes : Passes ws p = record { first = omega arith; last = omega arith; before = λ j k. omega (arith, take_rising ws j (p - 1) (omega arith)); at = omega arith } in
+    record { answer = sym (passes_is ws p passes); value = tt; law = told ws }
 
-pub loop-i-preserved : goal.loop-i-preserved
-loop-i-preserved g c =
+pub loop-part-preserved : goal.loop-part-preserved
+loop-part-preserved g c =
     let ws = g.S.Scale.weights c.args.scale.now in
-    let lt : c.loop-i.i < length ws = omega arith in
-    let next = total_next ws c.loop-i.i lt in
+    let p = c.loop-part.part in
+    let next = total_at ws p (omega arith) (omega arith) in
+    let back : sum (take (p + 1 - 1) ws) ≡ sum (take p ws) = ap (λ i. sum (take i ws)) (omega arith) in
     (omega arith, omega arith)
 
 pub returns-then-so_far-eq0 : goal.returns-then-so_far-eq0
 returns-then-so_far-eq0 g c =
     let ws = g.S.Scale.weights c.args.scale.now in
-    let all : sum (take c.loop-i.i ws) ≡ sum ws = ap sum (take_all c.loop-i.i ws (omega arith)) in
-    record { answer = sym (check_empty ws (omega arith)); value = tt; law = told ws }
+    let p = c.loop-part.part in
+    let none : sum ws ≡ 0 = elim c.loop-part-test.branch [
+      | else-loop-part-test w ↦ omega (arith, total_past ws (p - 1) (omega arith))
+      | then-loop-part-test+else-weight-so_far+else-part-part-end w ↦ omega (arith, total_past ws p (omega arith), total_at ws p (omega arith) (omega arith))
+    ] in
+    record { answer = sym (check_empty ws none); value = tt; law = told ws }
 
 pub returns-else-so_far-eq0 : goal.returns-else-so_far-eq0
 returns-else-so_far-eq0 g c =
     let ws = g.S.Scale.weights c.args.scale.now in
-    let all : sum (take c.loop-i.i ws) ≡ sum ws = ap sum (take_all c.loop-i.i ws (omega arith)) in
-    record { answer = sym (check_fine ws (omega arith) (omega arith)); value = (omega arith, omega arith, omega arith); law = told ws }
+    let p = c.loop-part.part in
+    let all : (c.loop-part-test.so_far ≡ sum ws) × (c.loop-part-test.so_far ≤ limit) = elim c.loop-part-test.branch [
+      | else-loop-part-test w ↦ (omega (arith, total_past ws (p - 1) (omega arith)), omega arith)
+      | then-loop-part-test+else-weight-so_far+else-part-part-end w ↦ (omega (arith, total_past ws p (omega arith), total_at ws p (omega arith) (omega arith)), omega arith)
+    ] in
+    record { answer = sym (check_fine ws (omega arith) (omega arith)); value = (all.0, omega arith, all.1); law = told ws }

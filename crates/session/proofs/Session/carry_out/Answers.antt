@@ -1,7 +1,6 @@
 use Rattle.std.proofs.Common.{sym, subst}
 use Rattle.scale.specs.Refusals.{refusal_of}
 use Rattle.lines.specs.declared.command.Command.{Command}
-use Rattle.session.specs.declared.Session.{Session}
 use Rattle.session.specs.Seen.{seen}
 use Rattle.session.specs.Steps.{Stepped}
 use Rattle.session.specs.Turns.{ack}
@@ -24,20 +23,15 @@ returns-in-Open c =
     }
 
 pub returns-in-Net : goal.returns-in-Net
-returns-in-Net c =
-    let s = c.args.self.now in
-    let t : Session = record { desk = c.answer.new.self; kind = s.kind; net = c.answer.new.board; by_source = s.by_source } in
-    record {
-      does = on_net c.args.command c.in_default.not-Open s.kind s t c.args.page.now c.answer.new.page c.answer.result c.in-Net.is c.answer.ensures.does;
-      within = c.answer.ensures.within;
-    }
+returns-in-Net c = record {
+  does = on_net c.args.command c.in_default.not-Open c.args.self.now.desk c.args.page.now c.answer.new.page c.answer.result c.in-Net.desk c.answer.new.self c.in-Net.is c.answer.ensures.does;
+  within = c.answer.ensures.within;
+}
 
 pub returns-in-BySource : goal.returns-in-BySource
 returns-in-BySource c =
-    let s = c.args.self.now in
     let r = c.answer-in-BySource in
-    let t : Session = record { desk = r.new.self; kind = s.kind; net = s.net; by_source = r.new.board } in
     record {
-      does = on_by_source c.args.command c.in_default.not-Open s.kind s t c.args.page.now r.new.page r.result c.in-BySource.is r.ensures.does;
+      does = on_by_source c.args.command c.in_default.not-Open c.args.self.now.desk c.args.page.now r.new.page r.result c.in-BySource.desk r.new.self c.in-BySource.is r.ensures.does;
       within = r.ensures.within;
     }

@@ -2,19 +2,18 @@
 use Rattle.std.proofs.Common.{◌≡◌, ap, ◌∙◌, rules}
 use Rattle.ledger.specs.States.{contracts}
 use Rattle.ledger.proofs.Told.{turnover_told}
-use Rattle.month.specs.Months.{state_of}
+use Rattle.month.specs.Months.{lent}
 use Rattle.month.specs.Questions.{sold, bought}
-use Rattle.month.proofs.Admission.{from_start}
 use Rattle.month.proofs.phase.Month.turnover.Goals as goal
 
 pub returns : goal.returns
 returns g c =
     let a = c.args in
     let m = a.self.now in
-    let s = state_of g.E.Joining m a.places.now a.rows.now a.shortfalls.now a.board.now in
+    let s = lent g.E.Joining m a.memories in
     let t = c.turnover_over-turnover in
-    let sells : t.result.sold ≡ sold a.agent (contracts s) = t.ensures.sold ∙ ap (sold a.agent) (from_start m.taken a.places.now) in
-    let buys : t.result.bought ≡ bought a.agent (contracts s) = t.ensures.bought ∙ ap (bought a.agent) (from_start m.taken a.places.now) in
+    let sells : t.result.sold ≡ sold a.agent (contracts s) = t.ensures.sold ∙ ap (sold a.agent) c.contracts.ensures in
+    let buys : t.result.bought ≡ bought a.agent (contracts s) = t.ensures.bought ∙ ap (bought a.agent) c.contracts.ensures in
     record {
       answer = search rules;
       amounts = (sells, buys);

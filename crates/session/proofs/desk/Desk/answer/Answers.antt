@@ -3,187 +3,82 @@ use Rattle.std.proofs.Common.{length, drop, Some, refl, ap, arith, length-append
 use Rattle.entry.specs.Kinds.{meaning}
 use Rattle.ledger.specs.Calls.{Offering, Ending, Telling}
 use Rattle.ledger.specs.Past.{offering, ending, telling}
-use Rattle.scale.specs.Refusals.{refusal_of, told}
+use Rattle.scale.specs.Refusals.{refusal_of}
 use Rattle.book.specs.declared.contract.Offer as offer
 use Rattle.lines.specs.declared.command.Command.TheVariants.{Open, Offer, Confirm, End, Tell, Close}
-use Rattle.lines.specs.Spoken.{spoken_line, refused}
 use Rattle.session.specs.Held.{held_of}
 use Rattle.session.specs.Questions.{showing_of}
-use Rattle.session.specs.Turns.{Changes, Closes, Confirms, ack, unfit}
-use Rattle.session.proofs.Replies.{acked, unfitted, located, unlocated, certified_on, uncertified, shut, as_read, as_read_on}
+use Rattle.session.specs.Turns.{Changes, Closes, Confirms, Refused, unfit}
+use Rattle.session.proofs.Replies.{acked, unfitted, located, certified_on, uncertified, shut}
 use Rattle.session.proofs.desk.Desk.answer.Goals as goal
 
-pub returns-in-Offer : goal.returns-in-Offer
-returns-in-Offer g c =
-    let o : offer.Offer = record { number = c.in-Offer.number; seller = c.in-Offer.seller; buyer = c.in-Offer.buyer; submarket = c.in-Offer.submarket; class = c.in-Offer.class; source = c.in-Offer.source; first = c.in-Offer.first; last = c.in-Offer.last; amount = c.in-Offer.amount } in
+pub returns-in-Offer-clause-does : goal.returns-in-Offer-clause-does
+returns-in-Offer-clause-does g c =
     let j = g.E.Joining in
     let k = meaning j g.E.Reversible in
-    let tell = showing_of j g.E.Shown in
-    let before = held_of j c.args.self.now c.args.board.now in
-    let after = held_of j c.offer.new.self c.args.board.now in
-    let answer = refusal_of c.offer.result in
-    record {
-      does = record {
-        line = ack answer;
-        fronted = c.put_ack.ensures.put;
-        holds = as_read k tell before (ack answer) after c.in-Offer.is (acked k tell
-            (Offer o.number o.seller o.buyer o.submarket o.class o.source o.first o.last o.amount)
-            (Changes k (offering o) (Offering o)) (λ h t answer d. (answer, refl, d)) before after answer c.offer.ensures);
-      };
-      within = c.put_ack.ensures.within;
-    }
+    let a = c.in-Offer in
+    let o : offer.Offer = record { number = a.number; seller = a.seller; buyer = a.buyer; submarket = a.submarket; class = a.class; source = a.source; first = a.first; last = a.last; amount = a.amount } in
+    acked k (showing_of j g.E.Counted g.E.Shown) _ (Offer a.number a.seller a.buyer a.submarket a.class a.source a.first a.last a.amount) a.is (Changes k (offering o) (Offering o)) (λ h t answer d. (answer, refl, d))
+    (held_of j c.args.self.now) (held_of j c.offer.new.self) (refusal_of c.offer.result) c.offer.ensures _ _ _ c.put_ack.ensures.put
 
-pub returns-in-Confirm : goal.returns-in-Confirm
-returns-in-Confirm g c =
+pub returns-in-Confirm-clause-does : goal.returns-in-Confirm-clause-does
+returns-in-Confirm-clause-does g c =
     let j = g.E.Joining in
     let k = meaning j g.E.Reversible in
-    let tell = showing_of j g.E.Shown in
     let a = c.in-Confirm in
-    let before = held_of j c.args.self.now c.args.board.now in
-    let after = held_of j c.confirm.new.self c.confirm.new.board in
-    let answer = refusal_of c.confirm.result in
-    record {
-      does = record {
-        line = ack answer;
-        fronted = c.put_ack-in-Confirm.ensures.put;
-        holds = as_read k tell before (ack answer) after a.is (acked k tell (Confirm a.number a.agent) (Confirms k a.number a.agent) (λ h t answer d. (answer, refl, d)) before after answer c.confirm.ensures);
-      };
-      within = c.put_ack-in-Confirm.ensures.within;
-    }
+    acked k (showing_of j g.E.Counted g.E.Shown) _ (Confirm a.number a.agent) a.is (Confirms k a.number a.agent) (λ h t answer d. (answer, refl, d))
+    (held_of j c.args.self.now) (held_of j c.confirm.new.self) (refusal_of c.confirm.result) c.confirm.ensures _ _ _ c.put_ack-in-Confirm.ensures.put
 
-pub returns-in-End : goal.returns-in-End
-returns-in-End g c =
+pub returns-in-End-clause-does : goal.returns-in-End-clause-does
+returns-in-End-clause-does g c =
     let j = g.E.Joining in
     let k = meaning j g.E.Reversible in
-    let tell = showing_of j g.E.Shown in
     let a = c.in-End in
-    let before = held_of j c.args.self.now c.args.board.now in
-    let after = held_of j c.end.new.self c.end.new.board in
-    let answer = refusal_of c.end.result in
-    record {
-      does = record {
-        line = ack answer;
-        fronted = c.put_ack-in-End.ensures.put;
-        holds = as_read k tell before (ack answer) after a.is (acked k tell (End a.number a.agent) (Changes k (ending a.number a.agent) (Ending k a.number a.agent)) (λ h t answer d. (answer, refl, d)) before after answer c.end.ensures);
-      };
-      within = c.put_ack-in-End.ensures.within;
-    }
+    acked k (showing_of j g.E.Counted g.E.Shown) _ (End a.number a.agent) a.is (Changes k (ending a.number a.agent) (Ending k a.number a.agent)) (λ h t answer d. (answer, refl, d))
+    (held_of j c.args.self.now) (held_of j c.end.new.self) (refusal_of c.end.result) c.end.ensures _ _ _ c.put_ack-in-End.ensures.put
 
-pub returns-in-Tell : goal.returns-in-Tell
-returns-in-Tell g c =
+pub returns-in-Tell-clause-does : goal.returns-in-Tell-clause-does
+returns-in-Tell-clause-does g c =
     let j = g.E.Joining in
     let k = meaning j g.E.Reversible in
-    let tell = showing_of j g.E.Shown in
     let a = c.in-Tell in
-    let before = held_of j c.args.self.now c.args.board.now in
-    let after = held_of j c.tell.new.self c.tell.new.board in
-    let answer = refusal_of c.tell.result in
-    record {
-      does = record {
-        line = ack answer;
-        fronted = c.put_ack-in-Tell.ensures.put;
-        holds = as_read k tell before (ack answer) after a.is (acked k tell (Tell a.agent a.kwh) (Changes k (telling a.agent a.kwh) (Telling k a.agent a.kwh)) (λ h t answer d. (answer, refl, d)) before after answer c.tell.ensures);
-      };
-      within = c.put_ack-in-Tell.ensures.within;
-    }
+    acked k (showing_of j g.E.Counted g.E.Shown) _ (Tell a.agent a.kwh) a.is (Changes k (telling a.agent a.kwh) (Telling k a.agent a.kwh)) (λ h t answer d. (answer, refl, d))
+    (held_of j c.args.self.now) (held_of j c.tell.new.self) (refusal_of c.tell.result) c.tell.ensures _ _ _ c.put_ack-in-Tell.ensures.put
+
+pub returns-in-Close-clause-does : goal.returns-in-Close-clause-does
+returns-in-Close-clause-does g c =
+    let j = g.E.Joining in
+    let k = meaning j g.E.Reversible in
+    let a = c.in-Close in
+    acked k (showing_of j g.E.Counted g.E.Shown) _ (Close) a.is (Closes) (λ h t answer d. (answer, refl, d))
+    (held_of j c.args.self.now) (held_of j c.close.new.self) (refusal_of c.close.result) (shut j c.args.self.now.stage c.args.self.now c.close.new.self (refusal_of c.close.result) refl c.close.ensures) _ _ _ c.put_ack-in-Close.ensures.put
+
+pub returns-in-Open-clause-does : goal.returns-in-Open-clause-does
+returns-in-Open-clause-does g c =
+    let j = g.E.Joining in
+    let k = meaning j g.E.Reversible in
+    let a = c.in-Open in
+    acked k (showing_of j g.E.Counted g.E.Shown) _ (Open a.agents a.hours a.places a.kind) a.is (Refused) (λ h t answer d. (answer, refl, d))
+    (held_of j c.args.self.now) (held_of j c.args.self.now) (Some unfit) (unfitted k (showing_of j g.E.Counted g.E.Shown) (held_of j c.args.self.now)) _ _ _ c.put_ack-in-Open.ensures.put
+
+pub returns-in-Position-clause-does : goal.returns-in-Position-clause-does
+returns-in-Position-clause-does g c =
+    let j = g.E.Joining in
+    let a = c.in-Position in
+    located (meaning j g.E.Reversible) (showing_of j g.E.Counted g.E.Shown) _ a.agent a.submarket a.hour a.is (held_of j c.args.self.now) c.position-answer.result
+    c.unwrap_or_else.result c.position-answer.ensures c.unwrap_or_else.ensures _ _ _ c.put_reply.ensures.put
 
 pub returns-in-Ok : goal.returns-in-Ok
 returns-in-Ok g c =
     let j = g.E.Joining in
-    let k = meaning j g.E.Reversible in
-    let tell = showing_of j g.E.Shown in
-    let held = held_of j c.args.self.now c.args.board.now in
-    let a = c.in-Position in
-    record {
-      does = record {
-        line = spoken_line c.in-Ok.reply;
-        fronted = c.put_reply.ensures.put;
-        holds = as_read k tell held (spoken_line c.in-Ok.reply) held a.is (located k tell a.agent a.submarket a.hour held c.in-Ok.reply c.in-Ok.ensures);
-      };
-      within = c.put_reply.ensures.within;
-    }
-
-pub returns-in-Err : goal.returns-in-Err
-returns-in-Err g c =
-    let j = g.E.Joining in
-    let k = meaning j g.E.Reversible in
-    let tell = showing_of j g.E.Shown in
-    let held = held_of j c.args.self.now c.args.board.now in
-    let a = c.in-Position in
-    let f = c.in-Err.fault in
-    record {
-      does = record {
-        line = spoken_line (refused (told f));
-        fronted = rw c.of_fault.ensures at c.put_reply-in-Err.ensures.put;
-        holds = as_read k tell held (spoken_line (refused (told f))) held a.is (unlocated k tell a.agent a.submarket a.hour held f c.in-Err.ensures);
-      };
-      within = c.put_reply-in-Err.ensures.within;
-    }
-
-pub returns-in-Ok-certificate : goal.returns-in-Ok-certificate
-returns-in-Ok-certificate g c =
-    let j = g.E.Joining in
-    let k = meaning j g.E.Reversible in
-    let tell = showing_of j g.E.Shown in
-    let held = held_of j c.args.self.now c.args.board.now in
+    let a = c.in-Certificate in
     let page = c.args.page.now in
-    let after = c.certificate.new.page in
-    let n = c.in-Ok-certificate.n in
-    let r = certified_on k tell c.in-Certificate.agent held page after n c.in-Ok-certificate.ensures in
-    record {
-      does = as_read_on k tell held held page after n c.in-Certificate.is r;
-      within = omega (arith, r.fronted.count, ap length r.fronted.page, length-append r.line (drop n page), c.certificate.array_long);
-    }
+    let r = certified_on (meaning j g.E.Reversible) (showing_of j g.E.Counted g.E.Shown) _ a.agent a.is (held_of j c.args.self.now) page c.certificate.new.page c.in-Ok.n c.in-Ok.ensures in
+    record { does = r; within = omega (arith, r.fronted.count, ap length r.fronted.page, length-append r.line (drop c.in-Ok.n page), c.certificate.array_long) }
 
-pub returns-in-Err-certificate : goal.returns-in-Err-certificate
-returns-in-Err-certificate g c =
+pub returns-in-Err-clause-does : goal.returns-in-Err-clause-does
+returns-in-Err-clause-does g c =
     let j = g.E.Joining in
-    let k = meaning j g.E.Reversible in
-    let tell = showing_of j g.E.Shown in
-    let held = held_of j c.args.self.now c.args.board.now in
-    let f = c.in-Err-certificate.fault in
-    let p = uncertified k tell c.in-Certificate.agent held c.args.page.now c.certificate.new.page f c.in-Err-certificate.ensures in
-    record {
-      does = record {
-        line = spoken_line (refused (told f));
-        fronted = rw (c.of_fault-in-Err-certificate.ensures, p.0) at c.put_reply-in-Err-certificate.ensures.put;
-        holds = as_read k tell held (spoken_line (refused (told f))) held c.in-Certificate.is p.1;
-      };
-      within = c.put_reply-in-Err-certificate.ensures.within;
-    }
-
-pub returns-in-Close : goal.returns-in-Close
-returns-in-Close g c =
-    let j = g.E.Joining in
-    let k = meaning j g.E.Reversible in
-    let tell = showing_of j g.E.Shown in
-    let d = c.args.self.now in
-    let board = c.args.board.now in
-    let before = held_of j d board in
-    let after = held_of j c.close.new.self board in
-    let answer = refusal_of c.close.result in
-    record {
-      does = record {
-        line = ack answer;
-        fronted = c.put_ack-in-Close.ensures.put;
-        holds = as_read k tell before (ack answer) after c.in-Close.is (acked k tell Close Closes (λ h t answer d. (answer, refl, d)) before after answer
-            (shut j board d.stage d c.close.new.self answer refl c.close.ensures));
-      };
-      within = c.put_ack-in-Close.ensures.within;
-    }
-
-pub returns-in-Open : goal.returns-in-Open
-returns-in-Open g c =
-    let j = g.E.Joining in
-    let k = meaning j g.E.Reversible in
-    let tell = showing_of j g.E.Shown in
-    let a = c.in-Open in
-    let held = held_of j c.args.self.now c.args.board.now in
-    record {
-      does = record {
-        line = ack (Some unfit);
-        fronted = c.put_ack-in-Open.ensures.put;
-        holds = as_read k tell held (ack (Some unfit)) held a.is (unfitted k tell (Open a.agents a.hours a.places a.kind) (λ h. (Some unfit, refl, (refl, refl))) held);
-      };
-      within = c.put_ack-in-Open.ensures.within;
-    }
+    let a = c.in-Certificate in
+    uncertified (meaning j g.E.Reversible) (showing_of j g.E.Counted g.E.Shown) _ a.agent a.is (held_of j c.args.self.now) c.args.page.now c.certificate.new.page
+    c.in-Err.fault c.in-Err.ensures _ c.from.ensures _ _ c.put_reply-in-Err.ensures.put

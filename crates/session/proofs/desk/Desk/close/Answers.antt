@@ -14,7 +14,7 @@ IsClosing Idle m = ⊥
 IsClosing (Open x) m = ⊥
 IsClosing (Closed n) m = (n.sizes ≡ m.sizes) × (n.taken ≡ m.taken)
 
-shuts : (s : Stage) (m : Month opened.Open) (d t : Desk) → t ≡ with_stage s d → IsClosing s m →
+shuts : {E : Type 0} (s : Stage) (m : Month opened.Open) (d t : Desk E) → t ≡ with_stage s d → IsClosing s m →
     (n : Month closed.Closed) × (n.sizes ≡ m.sizes) × (n.taken ≡ m.taken) × (t ≡ with_stage (Closed n) d)
 shuts Idle m d t e h = absurd h
 shuts (Open x) m d t e h = absurd h
@@ -22,6 +22,6 @@ shuts (Closed n) m d t e h = (n, h.0, h.1, e)
 
 -- What is put back is whatever the code makes of the month: the search shows that it is closing it.
 pub returns-in-Open : goal.returns-in-Open
-returns-in-Open c =
+returns-in-Open g c =
     let p : c.args.self.now.stage ≡ Open c.in-Open.month = sym c.replace.ensures.value ∙ c.in-Open.is in
     rw p (refl, shuts _ c.in-Open.month c.args.self.now _ (ap (λ (s : Stage). with_stage s c.args.self.now) c.put_back.ensures) (search rules))

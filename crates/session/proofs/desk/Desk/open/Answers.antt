@@ -1,17 +1,11 @@
-use Rattle.entry.specs.Kinds.{meaning}
-use Rattle.month.proofs.Checked.{both_pass}
-use Rattle.session.specs.declared.desk.Desk.{Desk}
-use Rattle.session.proofs.Opens.{fresh}
+use Rattle.std.proofs.Common.{replicate, refl, arith}
+use Rattle.session.proofs.Fronts.{front}
 use Rattle.session.proofs.desk.Desk.open.Goals as goal
 
-pub returns : goal.returns
-returns g c =
-    let a = c.args in
-    let now = a.self.now in
-    let d : Desk = record { stage = c.put_back.new.stage; lengths = c.in_ok-lengths.lengths; places = now.places; rows = now.rows; shortfalls = c.open_on.new.shortfalls } in
+pub returns-clause-begun : goal.returns-clause-begun
+returns-clause-begun g c =
+    let l = c.in_ok-lengths.lengths in
     let o = c.in_ok-month.ensures.opened in
-    record {
-      refused = both_pass _ _ c.in_ok-new.ensures.refused c.in_ok-lengths.ensures.refused;
-      begun = fresh g.E.Joining (meaning g.E.Joining g.E.Reversible) a.agents a.hours a.size d c.open_on.new.board c.in_ok-month.month c.put_back.new.stage
-          c.put_back.ensures o.0 o.1 o.2;
-    }
+    let s = front l.shortfalls (replicate 4 0) c.open.new.shortfalls (omega arith) c.open.auto.shortfalls in
+    let b = front l.entries (replicate 384 c.empty-board.result) c.open.new.board (omega arith) c.open.auto.board in
+    record { state = _; is = refl; sizes = o.0; opened = rw (s, b) o.1; life = rw (s, b) o.2 }

@@ -4,6 +4,7 @@ use Rattle.std.proofs.lemmas.List.{length-map}
 use Rattle.scale.specs.Totals.{limit}
 use Rattle.entry.specs.Kinds.{meaning, values}
 use Rattle.book.specs.Supply.{supply_check}
+use Rattle.ledger.specs.States.{agent_shortfall}
 use Rattle.settle.specs.Settled.{Ready}
 use Rattle.month.specs.Months.{state_of}
 use Rattle.month.specs.Settling.{Settled}
@@ -22,15 +23,16 @@ write_row-requires g c =
     let x = c.in_ok-index.contract in
     let chosen = c.in_ok-index.ensures.chosen in
     let supplied = c.in_ok-index.ensures.supplied in
+    let hours_are = c.from.ensures ∙ c.hours.ensures in
     let same = same_terms s a.number i x ws chosen supplied m.within in
     record {
-      room = subst (λ (h : ℕ). i * h + h ≤ length a.rows.now) (sym c.hours.ensures) (row_room s a.number i x ws chosen supplied m.within);
-      supply = ap (λ (h : ℕ). supply_check h x.terms ws) c.hours.ensures ∙ ap (λ t. supply_check m.sizes.hours t ws) same ∙ supplied.supply;
+      room = subst (λ (h : ℕ). i * h + h ≤ length a.rows.now) (sym hours_are) (row_room s a.number i x ws chosen supplied m.within);
+      supply = ap (λ (h : ℕ). supply_check h x.terms ws) hours_are ∙ ap (λ t. supply_check m.sizes.hours t ws) same ∙ supplied.supply;
       amount = subst (λ t. t.amount ≤ limit) (sym same) (amount_low s a.number i x ws chosen supplied m.within);
     }
 
-pub settle_at-requires : goal.settle_at-requires
-settle_at-requires g c =
+pub resettle-requires : goal.resettle-requires
+resettle-requires g c =
     let a = c.args in
     let m = a.self.now in
     let j = g.E.Joining in
@@ -40,7 +42,8 @@ settle_at-requires g c =
     let x = c.in_ok-index.contract in
     let chosen = c.in_ok-index.ensures.chosen in
     let supplied = c.in_ok-index.ensures.supplied in
-    let wrote = rows_written s a.number i x ws chosen supplied m.within c.hours.result c.write_row.new.rows c.hours.ensures c.write_row.ensures in
+    let hours_are = c.from.ensures ∙ c.hours.ensures in
+    let wrote = rows_written s a.number i x ws chosen supplied m.within c.from.result c.write_row.new.rows hours_are c.write_row.ensures in
     record {
       room = room s chosen.admitted m.within;
       inside = chosen.inside;
@@ -61,11 +64,12 @@ returns g c =
     let x = c.in_ok-index.contract in
     let chosen = c.in_ok-index.ensures.chosen in
     let supplied = c.in_ok-index.ensures.supplied in
-    let wrote = rows_written s a.number i x ws chosen supplied m.within c.hours.result c.write_row.new.rows c.hours.ensures c.write_row.ensures in
+    let hours_are = c.from.ensures ∙ c.hours.ensures in
+    let wrote = rows_written s a.number i x ws chosen supplied m.within c.from.result c.write_row.new.rows hours_are c.write_row.ensures in
     record {
       answered = c.in_ok-index.ensures.refused;
       leaves = entered s a.number i x ws chosen supplied m.within k
-          (lawful g.met.E.Joining.assoc g.met.E.Joining.comm g.met.E.Joining.unit) _ refl refl wrote refl c.shortfall_of-shortfall.result c.shortfall_of-shortfall.ensures
-          (subst (λ (rs : List ℕ). Settled k m.sizes m.taken x.terms.seller c.shortfall_of-shortfall.result (set (take m.taken a.places.now) i x) rs
-          a.places.now c.settle_at.new.places (values j a.board.now) (values j c.settle_at.new.board)) wrote c.settle_at.ensures);
+          (lawful g.met.E.Joining.assoc g.met.E.Joining.comm g.met.E.Joining.unit) _ refl refl wrote refl
+          (subst (λ (rs : List ℕ). Settled k m.sizes m.taken x.terms.seller (agent_shortfall s x.terms.seller) (set (take m.taken a.places.now) i x) rs
+          a.places.now c.resettle.new.places (values j a.board.now) (values j c.resettle.new.board)) wrote c.resettle.ensures);
     }

@@ -6,8 +6,8 @@ use Rattle.month.proofs.Finishing.{room, ready_ended, moderate_ended, finished}
 use Rattle.month.proofs.Laws.{lawful}
 use Rattle.month.proofs.phase.ending.Month+Open.finish.Goals as goal
 
-pub settle_at-requires : goal.settle_at-requires
-settle_at-requires g c =
+pub resettle-requires : goal.resettle-requires
+resettle-requires g c =
     let a = c.args in
     let m = a.self.now in
     let j = g.E.Joining in
@@ -31,5 +31,5 @@ returns g c =
     record {
       answered = c.in_ok-index.ensures.refused;
       leaves = finished s a.number c.in_ok-index.index c.in_ok-index.ended chosen m.within k
-          (lawful g.met.E.Joining.assoc g.met.E.Joining.comm g.met.E.Joining.unit) _ refl refl refl refl _ c.shortfall_of-shortfall.ensures c.settle_at.ensures;
+          (lawful g.met.E.Joining.assoc g.met.E.Joining.comm g.met.E.Joining.unit) _ refl refl refl refl c.resettle.ensures;
     }

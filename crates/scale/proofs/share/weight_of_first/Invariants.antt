@@ -1,5 +1,0 @@
-use Rattle.std.proofs.Common.{◌≡◌, take, sum}
-use Rattle.scale.proofs.share.weight_of_first.Given as goal
-
-abbrev pub invariant-loop-i : goal.invariant-loop-i
-invariant-loop-i g l = l.so_far ≡ sum (take l.i (g.S.Scale.weights l.scale))
