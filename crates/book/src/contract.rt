@@ -67,7 +67,8 @@ pub enum State {
     Ended,
 }
 
-// What seller and buyer agree on, and what never changes after the offer.
+// What seller and buyer agree on, and what never changes after the offer. The submarket stays a number: a book that is handed
+// in may hold any, and the rules give the four no names.
 #[derive(Clone, Copy, PartialEq, Eq, Debug)]
 pub struct Terms {
     pub number: Number,

@@ -1,8 +1,8 @@
 // The cut rule: what a seller's shortfall leaves of its contracts in force, class after class.
-ghost use Rattle.std.specs.Prelude.{◌≡◌, ℕ, ◌^◌, ◌<◌, ◌≤◌, map, length, replicate, MatchResult, slice_index, slice_index_or};
+ghost use Rattle.std.specs.Prelude.{◌≡◌, ℕ, ◌^◌, ◌<◌, ◌≤◌, map, length, MatchResult, slice_index, slice_index_or};
 ghost use Rattle.scale.specs.Refusals.{refusal_of};
-ghost use Rattle.scale.specs.Shares.{down_to, shares_of};
-ghost use Rattle.book.specs.Cuts.{claim_of, class_sum, class_weights, cut_in, left, left_by, recut as cut_anew, recut_check};
+ghost use Rattle.scale.specs.Shares.{down_to};
+ghost use Rattle.book.specs.Cuts.{claim_of, class_sum, cut_in, left, left_by, recut as cut_anew, recut_check};
 ghost use Rattle.book.specs.Limits.{most_places, most_total};
 ghost use Rattle.book.specs.Terms.{class_number};
 
@@ -10,33 +10,9 @@ use crate::classes::ClassScale;
 use crate::contract::{Class, Contract, MOST_PLACES};
 use crate::room::has_room;
 use scale::fault::{Fault, Reason};
-use scale::share::share;
-
-// A seller's amounts in force in a class.
-fn class_total(taken: &[Contract], seller: u16, class: Class) -> u64
-    requires { length taken.now ≤ most_places }
-    ensures { result ≡ class_sum seller (map claim_of taken.now) (class_number class) }
-{
-    taken
-        .iter()
-        .map(|contract| u64::from(contract.amount_in(seller, class)))
-        .sum()
-}
-
-// Shares a cut of a class over the seller's contracts. Where nothing is cut the shares stay 0, since the class may weigh nothing.
-// A cut above 0 is no more than the class weighs, so the sharing is never refused.
-fn share_cut(taken: &[Contract], seller: u16, class: Class, cut: u32, shares: &mut [u32])
-    requires most { cut ≤ class_sum seller (map claim_of taken.now) (class_number class) }
-    requires moderate { class_sum seller (map claim_of taken.now) (class_number class) ≤ most_total }
-    requires zeros { shares.old ≡ replicate (length taken.now) 0 }
-    ensures { shares.new ≡ shares_of down_to cut (class_weights seller (class_number class) (map claim_of taken.now)) }
-{
-    if cut > 0 {
-        let _ = share(cut, &ClassScale::new(taken, seller, class), shares);
-    }
-}
 
 // Leaves a contract that counts its amount less its share.
+// Here and below places are written, which a `ClassScale` only reads, so the seller and the class stand beside them.
 fn leave(contract: &mut Contract, seller: u16, class: Class, share: u32)
     requires { share ≤ contract.old.terms.amount }
     ensures { contract.new ≡ left seller (class_number class) share contract.old }
@@ -68,7 +44,7 @@ fn cut_class(taken: &mut [Contract], seller: u16, class: Class, cut: u32)
     // the shares of at most so many places stand in fixed memory, since the library allocates nothing
     let mut room = [0u32; MOST_PLACES];
     let shares = &mut room[..taken.len()];
-    share_cut(taken, seller, class, cut, shares);
+    ClassScale::new(taken, seller, class).share_cut(cut, shares);
     leave_each(taken, seller, class, shares);
 }
 
@@ -93,7 +69,7 @@ pub fn recut(taken: &mut [Contract], seller: u16, shortfall: u64) -> Result<(), 
     }
     let mut rest = shortfall;
     for class in [Class::Free, Class::Retail, Class::Regulated] {
-        let cut = rest.min(class_total(taken, seller, class));
+        let cut = rest.min(ClassScale::new(taken, seller, class).amounts());
         cut_class(taken, seller, class, cut as u32);
         rest -= cut;
     }

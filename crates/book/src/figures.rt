@@ -3,7 +3,7 @@ ghost use Rattle.std.specs.Prelude.{◌≡◌, true, length, take};
 ghost use Rattle.book.specs.Figures.{all_given, down_figures};
 ghost use Rattle.scale.specs.Shares.{down_to};
 
-// The definitions of sharing and of cutting give the figures.
+// The definitions of sharing and of cutting give the figures. It is there for its clause, and answers 0.
 pub fn figures_hold() -> u8
     ensures { all_given down_to down_figures ≡ true }
 {

@@ -51,7 +51,8 @@ fn sound_alone(sizes: &Sizes, row: &[u32], contract: &Contract) -> bool
         && (!contract.in_force() || row_total(row) == terms.amount as u64)
 }
 
-// Adds a contract's amount, if it is in force, to the total of its seller, and says whether that is still within the limit.
+// Adds a contract's amount, if it is in force, to the total of its seller, and says whether that is still within the limit. No error:
+// the caller tells this fault of a book as it tells the others, at the contract's place.
 // The totals stand by agent number in fixed memory, since the library allocates nothing.
 fn tally(totals: &mut [u64; 65], contract: &Contract) -> bool
     requires seller { contract.now.terms.seller ≤ 64 }

@@ -11,7 +11,7 @@ use entry::source::Source;
 use scale::fault::{Fault, Reason};
 
 impl Terms {
-    // The terms as plain numbers.
+    // The terms as plain numbers. A method, since the rules speak of a contract's fields by this name.
     pub fn fields(&self) -> Offer
         ensures { result ≡ as_numbers self.now }
     {

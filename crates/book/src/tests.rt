@@ -18,7 +18,7 @@ const OFFER: Offer = Offer {
     amount: 10,
 };
 
-// What is told of an answer: the reason's number and the spot, or zeros.
+// What is told of an answer: the reason's number and the spot, or zeros. Numbers, since they are what people are told.
 fn told<T: Drop>(answer: Result<T, Fault>) -> (u16, usize) {
     match answer {
         Ok(_) => (0, 0),

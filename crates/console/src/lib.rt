@@ -21,7 +21,8 @@ fn answer_line<W: Write>(session: &mut Session, line: &LineHold, out: &mut W) ->
     out.write_all(&page[..n])
 }
 
-// Answers each line that ends in `block`, and holds what follows the last.
+// Answers each line that ends in `block`, and holds what follows the last. Session, hold and output are lent apart, since a line
+// that ends is answered from the hold while the session and the output change.
 fn answer_block<W: Write>(
     session: &mut Session,
     held: &mut LineHold,
@@ -42,7 +43,7 @@ fn answer_block<W: Write>(
 }
 
 // Answers the lines that end in the next block of input, and hands the answers on before more input is waited for.
-// False at the end of the input.
+// False at the end of the input: an answer like any other, and no error.
 #[tactic(auto, using(session::proofs::Lasting::rest))]
 fn step<R: Read, W: Write>(
     session: &mut Session,

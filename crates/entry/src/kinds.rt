@@ -15,7 +15,7 @@ pub struct BySource {
 }
 
 // What was sold and what was bought, which no entry takes back.
-#[derive(Clone, Copy, Debug)]
+#[derive(Clone, Copy, Debug, Default)]
 pub struct Turnover {
     pub sold: u64,
     pub bought: u64,

@@ -35,7 +35,7 @@ fn draw_contract(random: &mut Random, number: u16, most: u32) -> Contract {
     }
 }
 
-// What a contract claims, if it is in force.
+// What a contract claims, if it is in force. No `From`: only a contract in force claims anything.
 fn claim_of(contract: &Contract) -> Option<Claim> {
     contract.in_force().then(|| Claim {
         seller: contract.terms.seller,
@@ -56,18 +56,17 @@ fn left(
     shortfall: u64,
 ) -> Result<Vec<u64>, AllocError> {
     let all = claims_of(heap, old)?;
-    let mut left = Vec::new(heap);
-    for (i, was) in old.iter().enumerate() {
-        left.push(match claim_of(was) {
+    old.iter()
+        .enumerate()
+        .map(|(i, was)| match claim_of(was) {
             Some(claim) if claim.seller == seller => {
-                let before = claims_of(heap, &old[0..i])?;
+                let before = claims_of(heap, old.get(0..i).unwrap_or(old))?;
                 let off = cut(all.as_slice(), before.as_slice(), claim, shortfall);
-                claim.amount.saturating_sub(off)
+                Ok(claim.amount.saturating_sub(off))
             }
-            _ => u64::from(was.effective),
-        })?;
-    }
-    Ok(left)
+            _ => Ok(u64::from(was.effective)),
+        })
+        .collect::<Result<Vec<u64>, AllocError>>(heap)?
 }
 
 fn draw_shortfall(random: &mut Random, most: u32) -> u64 {

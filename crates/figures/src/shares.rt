@@ -34,22 +34,28 @@ fn untouched(numbers: &[u32]) -> bool {
     numbers.iter().all(|number| *number == 7)
 }
 
+// Adds a part and its share to the sums of a run, and answers these.
+fn add_part(sums: &mut (u128, u128), (part, share): (&u64, &u64)) -> Option<(u128, u128)> {
+    let (weight, total) = *sums;
+    *sums = (
+        weight.wrapping_add(u128::from(*part)),
+        total.wrapping_add(u128::from(*share)),
+    );
+    Some(*sums)
+}
+
 // Whether each run of parts lies under `steps` from its exact share, compared after multiplying by the whole weight.
 fn runs_lie_near(amount: u64, weights: &[u64], shares: &[u64], steps: u128) -> bool {
     let whole = u128::from(sum(weights));
-    for from in 0..weights.len() {
-        let mut weight: u128 = 0;
-        let mut total: u128 = 0;
-        for (part, share) in weights.iter().zip(shares).skip(from) {
-            weight = weight.wrapping_add(u128::from(*part));
-            total = total.wrapping_add(u128::from(*share));
-            let exact = u128::from(amount).wrapping_mul(weight);
-            if total.wrapping_mul(whole).abs_diff(exact) >= whole.wrapping_mul(steps) {
-                return false;
-            }
-        }
-    }
-    weights.len() == shares.len()
+    let lies_near = |(weight, total): (u128, u128)| {
+        let exact = u128::from(amount).wrapping_mul(weight);
+        total.wrapping_mul(whole).abs_diff(exact) < whole.wrapping_mul(steps)
+    };
+    let all_near_from = |from: usize| {
+        let parts = weights.iter().zip(shares).skip(from);
+        parts.scan((0u128, 0u128), add_part).all(lies_near)
+    };
+    weights.len() == shares.len() && (0..weights.len()).all(all_near_from)
 }
 
 // Whether the two own ways of sharing agree.

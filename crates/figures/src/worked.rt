@@ -24,13 +24,14 @@ fn share_is(
 // What a shortfall leaves of 100 and 50 in class 1, 40 in class 2 and 90 in class 4, by the own rule.
 fn cut_is(shortfall: u64, wanted: [u64; 4]) -> bool {
     let all = [claim(1, 100), claim(1, 50), claim(2, 40), claim(4, 90)];
-    for (i, (claim, left)) in all.iter().zip(&wanted).enumerate() {
-        let off = cut(&all, &all[0..i], *claim, shortfall);
-        if claim.amount.saturating_sub(off) != *left {
-            return false;
-        }
-    }
-    true
+    all.iter()
+        .enumerate()
+        .map(|(i, claim)| {
+            let before = all.get(0..i).unwrap_or(&all);
+            let off = cut(&all, before, *claim, shortfall);
+            claim.amount.saturating_sub(off)
+        })
+        .eq(wanted.iter().copied())
 }
 
 fn claim(class: u16, amount: u64) -> Claim {

@@ -11,7 +11,8 @@ use entry::reversible::Reversible;
 pub mod counted;
 pub mod differences;
 
-// Every life balances, for each kind of entry that a board accepts: whoever calls it has the law at hand.
+// Every life balances, for each kind of entry that a board accepts: whoever calls it has the law at hand. What counts is the
+// clause; the number answered is there so that a wrong one shows that it is read.
 pub fn every_life_balances<E: Reversible>() -> u8
     ensures law { LivesBalance (meaning E.Joining E.Reversible.own) }
     ensures zero { result ≡ 0 }

@@ -1,5 +1,7 @@
 -- Which numbers a letter takes.
-use Rattle.std.proofs.Common.{◌≡◌, ℕ, zero, suc, ◌^◌, ◌<◌, List, [], ◌∷◌, length, get_or, take, drop, Some, None, Option, refl, subst, arith}
+use Rattle.std.proofs.Common.{◌≡◌, ℕ, zero, suc, ◌^◌, ◌<◌, false, List, [], ◌∷◌, length, get_or, take, drop, Some, None, Ok, Err, Option, Result, IsOk, IfOk, MatchOption, ◌↔◌, refl, sym, ap, ◌∙◌, subst, arith}
+use Rattle.std.proofs.lemmas.Bool.{both_ways}
+use Rattle.std.specs.Result.{result_ok}
 use Rattle.lines.specs.Grammar.{AllShort, letter, numbers, InFields, Means, Parsed, AllWide, Only, spelled}
 use Rattle.lines.specs.declared.command.Command.{Command}
 use Rattle.lines.specs.declared.command.Command.TheVariants.{Open, Offer, Confirm, End, Tell, Position, Close, Certificate}
@@ -12,6 +14,12 @@ pub short_at : (ns : List ℕ) → AllShort ns → (k : ℕ) → k < length ns �
 short_at [] h k l = omega arith
 short_at (n ∷ ns) h zero l = h.0
 short_at (n ∷ ns) h (suc k) l = short_at ns h.1 k (omega arith)
+
+-- the items that fill an array are the numbers, if these are so many
+pub filled : {E : Type 0} (n : ℕ) (ns items : List ℕ) (r : Result (List ℕ) E) → items ≡ ns → AllShort ns → (IsOk r ↔ (length items ≡ n)) → IfOk r (λ a. a ≡ items)
+    → MatchOption (result_ok r) (length ns ≡ n → AllShort ns → ⊥) (λ a. (a ≡ ns) × (length a ≡ n) × AllShort a)
+filled n ns items (Ok a) same s full is = (is ∙ same, ap length is ∙ full.0 refl, subst AllShort (sym (is ∙ same)) s)
+filled n ns items (Err e) same s full is = λ long _. both_ways false refl (full.1 (ap length same ∙ long))
 
 -- only an offer has the letter O
 pub none : (ns : List ℕ) → (length ns ≡ 9 → AllShort (take 8 ns) → get_or (drop 8 ns) 0 0 < 2 ^ 32 → ⊥) → (c : Command) → InFields c → letter c ≡ 79 → numbers c ≡ ns → ⊥

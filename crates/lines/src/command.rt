@@ -1,4 +1,6 @@
-// What a line can ask for. The fields have the order of the line's numbers.
+// What a line can ask for. The fields have the order of the line's numbers. Kind, class and source are numbers too: a line
+// may name any, and the call that it asks for refuses it, with the field's spot. The fields of an offer stand here again, since
+// lines know no book.
 #[derive(Clone, Copy, PartialEq, Eq, Debug)]
 pub enum Command {
     Open {

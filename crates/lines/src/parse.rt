@@ -39,19 +39,16 @@ fn short(n: u64) -> Option<u16>
     u16::try_from(n).ok()
 }
 
-// The numbers, if there are N of them and each is below 2^16.
+// The numbers, if there are N of them and each is below 2^16. No command takes more than eight, and so few fit in memory.
 fn shorts<const N: usize>(numbers: &[u64]) -> Option<[u16; N]>
+    requires { N ≤ 8 }
     ensures { MatchOption result (length numbers.now ≡ N → AllShort numbers.now → ⊥) (λ a. (a ≡ numbers.now) × (length a ≡ N) × AllShort a) }
 {
-    if numbers.len() != N {
-        return None;
+    let mut shorts = ArrayVec::new();
+    for n in numbers {
+        shorts.try_push(short(*n)?).ok()?;
     }
-    let mut shorts = [0; N];
-    // By index, since an invariant cannot name an array that `iter_mut` holds.
-    for (i, n) in numbers.iter().enumerate() {
-        shorts[i] = short(*n)?;
-    }
-    Some(shorts)
+    shorts.into_inner().ok()
 }
 
 fn open(numbers: &[u64]) -> Option<Command>
@@ -91,6 +88,7 @@ fn confirm(numbers: &[u64]) -> Option<Command>
     Some(Command::Confirm { number, agent })
 }
 
+// As for a confirmation but for the command named: a function over the constructor would be no shorter.
 fn finish(numbers: &[u64]) -> Option<Command>
     ensures { Means 69 numbers.now result }
 {
@@ -134,7 +132,7 @@ fn certificate(numbers: &[u64]) -> Option<Command>
     Some(Command::Certificate { agent })
 }
 
-// The command of a letter and the numbers after it.
+// The command of a letter and the numbers after it. A match, since it is the grammar: the letter comes from the line.
 fn meant(letter: u8, numbers: &[u64]) -> Option<Command>
     ensures { Means letter numbers.now result }
 {

@@ -41,7 +41,8 @@ fn put_words(pen: &mut Pen, reply: Reply)
     }
 }
 
-// Writes a reply and its line feed to the front of the page, and answers the count of bytes.
+// Writes a reply and its line feed to the front of the page, and answers the count of bytes. That the count fits the page is said
+// again by whoever hands it on, since a number has no type to hold it.
 pub fn put_reply(page: &mut [u8; ROOM], reply: Reply) -> usize
     ensures put { Fronted (spoken_line reply) page.old page.new result }
     ensures within { result ≤ 64 }

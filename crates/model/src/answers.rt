@@ -19,16 +19,24 @@ pub fn refused(number: u16, spot: usize) -> Result<(), Refusal> {
 // The first refusal for the weights of a contract's hours.
 pub fn weighed(weights: &[u32], first: u16, last: u16) -> Result<(), Refusal> {
     let hours = usize::from(first)..=usize::from(last);
-    let mut total: u64 = 0;
-    for (hour, weight) in (1..=weights.len()).zip(weights) {
-        if hours.contains(&hour) {
-            total = total.wrapping_add(u64::from(*weight));
-        }
-        if total > MOST {
-            return refused(13, hour);
-        }
+    let weighed = (1..=weights.len())
+        .zip(weights)
+        .filter(|(hour, _)| hours.contains(hour))
+        .try_fold(0u64, |before, (hour, weight)| {
+            let total = before.wrapping_add(u64::from(*weight));
+            if total > MOST {
+                return Err(Refusal {
+                    number: 13,
+                    spot: hour,
+                });
+            }
+            Ok(total)
+        });
+    if weighed? == 0 {
+        refused(12, 0)
+    } else {
+        Ok(())
     }
-    if total == 0 { refused(12, 0) } else { Ok(()) }
 }
 
 impl Account {

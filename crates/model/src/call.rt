@@ -1,4 +1,5 @@
-// What is called, in plain numbers. Classes, sources and refusals stay numbers here, those of the rules, since no type of the system may be shared.
+// What is called, in plain numbers. No type of the system may be shared, so classes, sources and refusals have here the numbers of the rules.
+// Class and source are numbers because a call may name any number, and an own enum could not hold those that no class has.
 
 // What an offer names.
 #[derive(Clone, Copy, PartialEq, Eq, Debug)]

@@ -2,7 +2,7 @@
 use crate::call::Named;
 use crate::sharing::part_between;
 
-// What a cut looks at: a seller's contract in force, its class and its amount.
+// What a cut looks at: a seller's contract in force, its class and its amount. The class is a number as in the call that named it.
 #[derive(Clone, Copy, PartialEq, Eq, Debug)]
 pub struct Claim {
     pub seller: u16,

@@ -145,20 +145,18 @@ impl Account {
     pub fn lines(&self, heap: Global) -> Result<Vec<Line>, AllocError> {
         let claims = self.claims(heap)?;
         let all = claims.as_slice();
-        let mut lines = Vec::new(heap);
-        for named in self.calls.iter().filter_map(Call::offered) {
-            if self.in_force(named.number) {
-                let before = all.get(0..lines.len()).unwrap_or(all);
-                let off = cut(
-                    all,
-                    before,
-                    Claim::from(*named),
-                    self.shortfall(named.seller),
-                );
-                lines.push(self.line(heap, *named, off)?)?;
-            }
-        }
-        Ok(lines)
+        self.calls
+            .iter()
+            .filter_map(Call::offered)
+            .filter(|named| self.in_force(named.number))
+            .enumerate()
+            .map(|(count, named)| {
+                let before = all.get(0..count).unwrap_or(all);
+                let owed = self.shortfall(named.seller);
+                let off = cut(all, before, Claim::from(*named), owed);
+                self.line(heap, *named, off)
+            })
+            .collect::<Result<Vec<Line>, AllocError>>(heap)?
     }
 }
 

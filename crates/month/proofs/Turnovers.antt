@@ -1,6 +1,6 @@
 -- The turnover of an agent, one contract after another, and that nothing wraps.
 use Rattle.std.proofs.Common.{◌≡◌, ℕ, zero, suc, ◌+◌, ◌*◌, ◌^◌, ◌<◌, ◌≤◌, Bool, true, false, cond, List, map, length, get_or, take, sum_by, sym, refl, ap, ◌∙◌, add-one, arith}
-use Rattle.std.proofs.lemmas.List.{get_or-map, take_all}
+use Rattle.std.proofs.lemmas.List.{get_or-map, length-map, take_all}
 use Rattle.std.proofs.lemmas.List.Sums.{sum_by_more}
 use Rattle.entry.specs.declared.kinds.Turnover.{Turnover}
 use Rattle.entry.specs.Kinds.{up_to}
@@ -19,10 +19,16 @@ part agent c = record { sold = sold_in agent c; bought = bought_in agent c }
 abbrev pub none : Turnover
 none = record { sold = 0; bought = 0 }
 
--- the parts below i are the turnovers of the contracts there
-pub record Filled (agent : ℕ) (taken : List Contract) (parts : List Turnover) (i : ℕ) : Type 0 where
-  pub long : length parts ≡ 256
-  pub below : (k : ℕ) → k < i → get_or parts k none ≡ part agent (get_or taken k blank)
+-- the parts are the turnovers of the contracts
+pub record Filled (agent : ℕ) (taken : List Contract) (parts : List Turnover) : Type 0 where
+  pub long : length parts ≡ length taken
+  pub below : (k : ℕ) → k < length taken → get_or parts k none ≡ part agent (get_or taken k blank)
+
+pub filled_map : (agent : ℕ) (taken : List Contract) (parts : List Turnover) → parts ≡ map (part agent) taken → Filled agent taken parts
+filled_map agent taken parts is = record {
+  long = ap length is ∙ length-map taken (part agent);
+  below = λ k lt. ap (λ ps. get_or ps k none) is ∙ get_or-map (part agent) taken k blank none lt;
+}
 
 pub part_is : (t : Turnover) (m n : ℕ) → t.sold ≡ m → t.bought ≡ n → t ≡ record { sold = m; bought = n }
 part_is t m n p q = λ i. record { sold = p i; bought = q i }
@@ -37,7 +43,7 @@ moderate : (b : Bool) (e : ℕ) → e ≤ 1000000000 → cond b e 0 ≤ 10000000
 moderate true e h = h
 moderate false e h = omega arith
 
-module _ (agent : ℕ) (taken : List Contract) (parts : List Turnover) (filled : Filled agent taken parts (length taken)) (few : length taken ≤ 256)
+module _ (agent : ℕ) (taken : List Contract) (parts : List Turnover) (filled : Filled agent taken parts) (few : length taken ≤ 256)
     (low : (i : ℕ) → i < length taken → (get_or taken i blank).effective ≤ 1000000000) where
   at : (k : ℕ) → k < length taken → get_or (map turnover_value parts) (0 + k * 1) no_words ≡ (word (sold_in agent (get_or taken k blank)), word (bought_in agent (get_or taken k blank)))
   at k lt =

@@ -1,4 +1,5 @@
-// Open and closed months, as types that are moved from one to the other.
+// Open and closed months, as types that are moved from one to the other. Agents, submarkets, hours and contract numbers are
+// handed to each call one by one: a call may name any, and is refused with the field's spot.
 ghost use Rattle.std.specs.Prelude.{◌≤◌};
 
 use book::sizes::Sizes;

@@ -3,8 +3,8 @@ ghost use Rattle.std.specs.Prelude.{◌≡◌, ℕ, ◌<◌, ◌≤◌, length, 
 ghost use Rattle.book.specs.Terms.{blank};
 ghost use Rattle.month.specs.Questions.{sold_in, bought_in, sold as sold_of, bought as bought_of};
 
-use book::contract::Contract;
-use entry::joining::Joining;
+use arrayvec::ArrayVec;
+use book::contract::{Contract, MOST_PLACES};
 use entry::kinds::Turnover;
 use entry::total::total;
 
@@ -34,10 +34,10 @@ pub(crate) fn turnover_over(taken: &[Contract], agent: u16) -> Turnover
     ensures bought { result.bought ≡ bought_of agent taken.now }
     ensures most { (result.sold ≤ 256000000000) × (result.bought ≤ 256000000000) }
 {
-    // By index: after a loop over `parts.iter_mut().zip(taken)` a proof knows no more of `parts` than its length.
-    let mut parts = [Turnover::empty(); 256];
-    for (i, contract) in taken.iter().enumerate() {
-        parts[i] = turnover_in(contract, agent);
+    // Fixed memory, since the library allocates nothing.
+    let mut parts = ArrayVec::<Turnover, MOST_PLACES>::new();
+    for contract in taken {
+        parts.push(turnover_in(contract, agent));
     }
-    total(&parts, 0, 1, taken.len())
+    total(parts.as_slice(), 0, 1, taken.len())
 }

@@ -1,4 +1,4 @@
-// The four memories, and what a host may do to them between calls.
+// The four memories, and what a host may do to them between calls. (The hosts of `trial` and `trials` may do less, and compare more.)
 use crate::order::Step;
 use crate::script::Line;
 use book::contract::{BLANK, Class, Contract, State};
@@ -39,17 +39,17 @@ const LEFT_BY_SOURCE: BySource = BySource {
 
 // Whether a memory becomes longer or shorter.
 #[derive(Clone, Copy, PartialEq, Eq, Debug)]
-enum Change {
+enum Length {
     Longer,
     Shorter,
 }
 
-impl Change {
+impl Length {
     // One element more at the end of a memory, or one less.
     fn make<T: Drop>(self, memory: &mut Vec<T>, element: T) -> Result<(), AllocError> {
         match self {
-            Change::Longer => memory.push(element)?,
-            Change::Shorter => {
+            Length::Longer => memory.push(element)?,
+            Length::Shorter => {
                 let _ = memory.pop();
             }
         }
@@ -111,13 +111,13 @@ impl Host {
     }
 
     // Changes the memory of a spot: the number that a refusal of its length tells. Each memory has elements of its own type, so no list holds them.
-    fn resize(&mut self, spot: u16, change: Change) -> Result<(), AllocError> {
+    fn resize(&mut self, spot: u16, length: Length) -> Result<(), AllocError> {
         match spot {
-            1 => change.make(&mut self.places, BLANK),
-            2 => change.make(&mut self.rows, 3),
-            3 => change.make(&mut self.owed, 4),
-            4 => change.make(&mut self.board, LEFT),
-            _ => change.make(&mut self.by_source, LEFT_BY_SOURCE),
+            1 => length.make(&mut self.places, BLANK),
+            2 => length.make(&mut self.rows, 3),
+            3 => length.make(&mut self.owed, 4),
+            4 => length.make(&mut self.board, LEFT),
+            _ => length.make(&mut self.by_source, LEFT_BY_SOURCE),
         }
     }
 
@@ -127,8 +127,8 @@ impl Host {
             Step::Renew => {
                 *self = Host::new(self.heap, line.number(0), line.number(1), line.number(2))?;
             }
-            Step::Lengthen => self.resize(line.number(0), Change::Longer)?,
-            Step::Shorten => self.resize(line.number(0), Change::Shorter)?,
+            Step::Lengthen => self.resize(line.number(0), Length::Longer)?,
+            Step::Shorten => self.resize(line.number(0), Length::Shorter)?,
             Step::WriteField => {
                 let place = line.number::<usize>(0).wrapping_sub(1);
                 if let Some(contract) = self.places.get_mut(place) {

@@ -1,4 +1,4 @@
-// The calls that lines stand for.
+// The calls that lines stand for: each is made of a month, which the caller owns and may change, and of a line.
 use crate::host::Host;
 use crate::order::{BoardQuestion, Call, Change, Question};
 use crate::script::Line;

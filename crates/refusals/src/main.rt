@@ -43,20 +43,37 @@ impl<'a> Trial<'a> {
         bail!("a line is told something else")
     }
 
-    // The lines of an open month, up to K.
-    fn live(&mut self, month: &mut Month<Open>, lines: &mut Iter<'_, Line>) -> anyhow::Result<()> {
+    // The lines up to the order that ends them, whose line it answers if it comes; a closure makes their calls.
+    fn take_until<'b, F: FnMut(&mut Host, Call, &Line) -> anyhow::Result<Told>>(
+        &mut self,
+        end: Order,
+        lines: &mut Iter<'b, Line>,
+        mut make: F,
+    ) -> anyhow::Result<Option<&'b Line>>
+        requires { F.IsAlwaysCallable make }
+    {
         for line in lines.by_ref() {
             match line.order {
                 Order::Prepare(step) => self.host.prepare(step, line)?,
                 Order::Call(call) => {
-                    let told = self.host.call(month, call, line)?;
+                    let told = make(&mut self.host, call, line)?;
                     self.judge(call, line, told)?;
                 }
-                Order::Close => return Ok(()),
-                Order::Finish => break,
+                order => return Ok((order == end).then_some(line)),
             }
         }
-        bail!("a month is not closed")
+        Ok(None)
+    }
+
+    // The lines of an open month, up to K.
+    fn live(&mut self, month: &mut Month<Open>, lines: &mut Iter<'_, Line>) -> anyhow::Result<()> {
+        let closed = self.take_until(Order::Close, lines, |host, call, line| {
+            host.call(month, call, line)
+        })?;
+        match closed {
+            Some(_) => Ok(()),
+            None => bail!("a month is not closed"),
+        }
     }
 
     // The lines of a closed month, up to the dot; answers how many places must be taken.
@@ -65,18 +82,13 @@ impl<'a> Trial<'a> {
         month: &Month<Closed>,
         lines: &mut Iter<'_, Line>,
     ) -> anyhow::Result<u16> {
-        for line in lines.by_ref() {
-            match line.order {
-                Order::Prepare(step) => self.host.prepare(step, line)?,
-                Order::Call(call) => {
-                    let told = self.host.call_closed(month, call, line)?;
-                    self.judge(call, line, told)?;
-                }
-                Order::Close => break,
-                Order::Finish => return Ok(line.number(0)),
-            }
+        let finished = self.take_until(Order::Finish, lines, |host, call, line| {
+            host.call_closed(month, call, line)
+        })?;
+        match finished {
+            Some(line) => Ok(line.number(0)),
+            None => bail!("a month has no end"),
         }
-        bail!("a month has no end")
     }
 
     // A month that a line opened, up to its end.

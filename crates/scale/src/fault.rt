@@ -32,7 +32,7 @@ pub struct Fault {
 }
 
 impl Reason {
-    // The number that people are told.
+    // The number that people are told. A method, since its name says at each use what a conversion would not.
     pub fn number(self) -> u16
         ensures { result ≡ number_of self }
     {

@@ -1,4 +1,5 @@
-// What holds of sharing by every sound rule of rounding, and that rounding down is such a rule.
+// What holds of sharing by every sound rule of rounding, and that rounding down is such a rule. Each function is there for its
+// clauses: what it answers is the number that its theorem is of, or 0 where it is of none.
 ghost use Rattle.scale.specs.Fairness.{Bounds, SoundIsFair};
 ghost use Rattle.scale.specs.Shares.{Sound, down_to, RoundsWith};
 

@@ -10,8 +10,8 @@ use scale::fault::Fault;
 // The kinds by their numbers, which a line names them by.
 #[derive(Clone, Copy, PartialEq, Eq, Debug)]
 pub enum BoardKind {
-    Net,
-    BySource,
+    Net = 0,
+    BySource = 1,
 }
 
 // A number that no kind has.

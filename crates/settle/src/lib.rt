@@ -89,7 +89,8 @@ fn move_place<E: Reversible>(
     }
 }
 
-// Moves the board for every place whose contract was `old` and is `new`.
+// Moves the board for every place whose contract was `old` and is `new`. What is asked (`Ready`) is of four slices that the host
+// lends one by one, so no struct holds it.
 fn revise<E: Reversible>(
     sizes: &Sizes,
     old: &[Contract],

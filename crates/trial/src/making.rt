@@ -45,7 +45,7 @@ pub fn meant(heap: Global, shape: Shape, raw: &[u32]) -> Result<Vec<u32>, AllocE
         .collect(heap)
 }
 
-// A refusal of the system as the account has it, by its number. Both types stand in other crates, and an impl of `From` must name one of this.
+// A refusal of the system as the account has it, by its number. Both types stand in other crates, and an impl of `From` must name one of this crate.
 pub fn refusal_of(fault: Fault) -> Refusal {
     Refusal {
         number: fault.reason.number(),
@@ -113,6 +113,7 @@ impl<E: Kind + Drop> Staged<E> {
     }
 
     // Makes a call on the month alone. A confirmation's scale is made of the raw weights, by its shape.
+    // A match tells the calls apart, since each has other arguments.
     pub fn make(
         &mut self,
         month: &mut Month<Open>,

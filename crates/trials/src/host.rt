@@ -1,4 +1,5 @@
-// A host that lends its four memories to each call, and notes what it is told.
+// A host that lends its four memories to each call, and notes what it is told, as a number and a spot: that is what people are
+// told. The hosts of `trial` and `refusals` lend other memories, and look at other things after a call.
 use book::contract::{BLANK, Contract, Offer};
 use entry::kinds::Net;
 use month::memories::Memories;
@@ -6,7 +7,7 @@ use month::phase::{Closed, Month, Open};
 use scale::fault::Fault;
 use scale::row::RowScale;
 
-// What a call is told: a refusal's number and spot, or nothing.
+// What a call is told: a refusal's number and spot, or nothing. A number and a spot are what people are told, so no enum stands for them.
 pub type Told = Result<(), (u16, usize)>;
 
 pub const PASSED: Told = Ok(());

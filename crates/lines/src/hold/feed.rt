@@ -6,6 +6,8 @@ use super::{HELD, LONGEST, LineHold};
 use crate::command::Command;
 use crate::parse::parse_line;
 
+// Each contract speaks of every text t that the hold may hold: of an overlong line only a front is kept, so no field and no view
+// of the hold could name the text.
 impl LineHold {
     // Nothing has come yet.
     pub fn new() -> LineHold

@@ -76,7 +76,8 @@ impl Month<Open> {
         Ok((index, entering))
     }
 
-    // A confirmation that passed: the row is written, the contract stands in force, and its seller is resettled.
+    // A confirmation that passed: the row is written, the contract stands in force, and its seller is resettled. It is apart from
+    // `confirm`, which adds the law on lives from this step alone: in one function each way out would have to show it again.
     fn enforce<E: Reversible, S: Scale>(
         &self,
         places: &mut [Contract],

@@ -38,7 +38,8 @@ impl Month<Open> {
         Ok((index, ended))
     }
 
-    // An ending that passed: the contract stands ended, and its seller is resettled.
+    // An ending that passed: the contract stands ended, and its seller is resettled. Apart from `end` as a confirmation is
+    // from `confirm`, so that each way out need not show the law on lives.
     fn finish<E: Reversible>(
         &self,
         places: &mut [Contract],

@@ -30,7 +30,8 @@ fn unused(taken: &[Contract], offer: &Offer) -> Result<(), Fault>
 }
 
 impl Month<Open> {
-    // The checks of an offer in their order, and then the next place is taken.
+    // The checks of an offer in their order, and then the next place is taken. Apart from `offer`, so that each way out need not
+    // show the law on lives.
     fn take_place<E: Reversible>(
         &mut self,
         places: &mut [Contract],

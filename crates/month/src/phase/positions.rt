@@ -24,7 +24,8 @@ fn check_submarket(submarket: u16, field: usize) -> Result<(), Fault>
 }
 
 impl<P> Month<P> {
-    // Where the entry of an agent at a submarket and hour, all from 1, stands on the board.
+    // Where the entry of an agent at a submarket and hour, all from 1, stands on the board. The board has this
+    // formula of its own, over deals: here agents and submarkets come from a call.
     fn index_of(&self, agent: u16, submarket: u16, hour: u16) -> usize
         requires agent { 1 ≤ agent }
         requires submarket { 1 ≤ submarket }
@@ -35,7 +36,8 @@ impl<P> Month<P> {
         lane * usize::from(self.sizes.hours()) + (usize::from(hour) - 1)
     }
 
-    // The board's entry of an agent at a submarket and hour.
+    // The board's entry of an agent at a submarket and hour. Apart from the calls that answer it, which add what holds in every
+    // life: in one function each way out would have to show it.
     fn entry_at<E: Joining>(
         &self,
         board: &[E],
@@ -53,7 +55,8 @@ impl<P> Month<P> {
         Ok(board[self.index_of(agent, submarket, hour)])
     }
 
-    // The entries of all agents at a submarket and hour, joined by the total that serves every joining kind.
+    // The entries of all agents at a submarket and hour, joined by the total that serves every joining kind; apart from `balance`
+    // for the same reason.
     fn joined_at<E: Joining>(&self, board: &[E], submarket: u16, hour: u16) -> Result<E, Fault>
         ensures answer { refusal_of result ≡ balance_refusal self.now.sizes (length board.now) submarket hour }
         ensures joined { IfOk result (λ e. E.Joining.value e ≡ up_to (joins_in E.Joining) self.now.sizes.agents

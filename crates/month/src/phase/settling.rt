@@ -21,7 +21,7 @@ fn shortfall_of(shortfalls: &[u64], agent: u16) -> u64
 }
 
 impl<P> Month<P> {
-    // After an event that left a contract changed at its index, or none but by the cuts.
+    // Resettles a seller after an event that left a contract changed at its index, or none but by the cuts.
     pub(super) fn resettle<E: Reversible>(
         &self,
         places: &mut [Contract],

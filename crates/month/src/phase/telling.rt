@@ -14,7 +14,8 @@ use entry::reversible::Reversible;
 use scale::fault::{Fault, Reason};
 
 impl Month<Open> {
-    // The checks of a telling in their order; then the shortfall is noted, and the seller is resettled.
+    // The checks of a telling in their order; then the shortfall is noted, and the seller is resettled. Apart from `tell`, so that
+    // each way out need not show the law on lives.
     fn note<E: Reversible>(
         &self,
         places: &mut [Contract],

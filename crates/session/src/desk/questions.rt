@@ -13,7 +13,7 @@ use month::memories::Memories;
 use scale::fault::Fault;
 
 impl<E: Shown> Desk<E> {
-    // The reply that tells a position.
+    // The reply that tells a position. An open month and a closed one are of two types, so each has its arm.
     pub(crate) fn position(&self, agent: u16, submarket: u16, hour: u16) -> Result<Reply, Fault>
         ensures { PositionAsked (meaning E.Joining E.Reversible.own) (showing_of E.Joining E.Counted.own E.Shown.own) agent submarket hour (held_of E.Joining self.now) result }
     {

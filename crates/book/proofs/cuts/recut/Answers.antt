@@ -19,7 +19,8 @@ numbered (suc (suc (suc i))) less = omega arith
 pub overflow_cast-cut : goal.overflow_cast-cut
 overflow_cast-cut c =
     let class : ℕ = class_number (cut_at c.loop-class.class-index) in
-    omega (arith, c.min-cut.ensures, c.class_total.ensures, class_within down_to c.args.seller c.args.shortfall c.args.taken.now c.loop-class.class-index class c.loop-class.taken c.loop-class.invariant.0 (sym c.if-not-has_room.ensures))
+    let sells = rw c.new.ensures.taken at (rw c.new.ensures.seller at (rw c.new.ensures.class at c.amounts.ensures)) in
+    omega (arith, c.min-cut.ensures, sells, class_within down_to c.args.seller c.args.shortfall c.args.taken.now c.loop-class.class-index class c.loop-class.taken c.loop-class.invariant.0 (sym c.if-not-has_room.ensures))
 
 pub cut_class-requires-clause-moderate : goal.cut_class-requires-clause-moderate
 cut_class-requires-clause-moderate c =
@@ -28,8 +29,9 @@ cut_class-requires-clause-moderate c =
 pub loop-class-preserved : goal.loop-class-preserved
 loop-class-preserved c =
     let i = c.loop-class.class-index in
+    let sells = rw c.new.ensures.taken at (rw c.new.ensures.seller at (rw c.new.ensures.class at c.amounts.ensures)) in
     cut_one down_to _ _ _ i _ _ _ _ _ (omega arith) (numbered i (omega arith)) c.loop-class.invariant.0 c.loop-class.invariant.1
-    (omega (arith, c.min-cut.ensures, c.class_total.ensures)) c.cut_class.ensures
+    (omega (arith, c.min-cut.ensures, sells)) c.cut_class.ensures
 
 pub cut_class-requires-2-clause-moderate : goal.cut_class-requires-2-clause-moderate
 cut_class-requires-2-clause-moderate c =

@@ -1,5 +1,6 @@
-use Rattle.month.proofs.Turnovers.{Filled}
+use Rattle.std.proofs.Common.{◌≡◌, map, take}
+use Rattle.month.proofs.Turnovers.{part}
 use Rattle.month.proofs.turnover.turnover_over.Given as goal
 
-abbrev pub invariant-loop-i : goal.invariant-loop-i
-invariant-loop-i l = Filled l.agent l.taken l.parts l.i
+abbrev pub invariant-loop-contract : goal.invariant-loop-contract
+invariant-loop-contract l = l.parts.items ≡ map (part l.agent) (take l.contract-index l.taken)
