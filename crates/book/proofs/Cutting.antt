@@ -1,5 +1,5 @@
 -- What a cut takes off contracts: no more than is there, and all that is due.
-use Rattle.std.proofs.Common.{◌≡◌, ℕ, zero, suc, ◌+◌, ◌-◌, ◌<◌, ◌≤◌, min, Bool, true, false, cond, ◌&&◌, eqb, leb, List, [], ◌∷◌, map, length, get_or, take, sum, refl, ap, ◌∙◌, subst, inl, inr, add-zero, mul-le-mul_right, add-mul, mul-add, add-one, arith}
+use Rattle.std.proofs.Common.{◌≡◌, ℕ, zero, suc, ◌+◌, ◌-◌, ◌<◌, ◌≤◌, min, Bool, true, false, cond, ◌&&◌, eqb, leb, List, [], ◌∷◌, map, length, get_or, take, sum_by, sum, refl, ap, ◌∙◌, subst, inl, inr, add-zero, mul-le-mul_right, add-mul, mul-add, add-one, arith}
 use Rattle.std.proofs.lemmas.List.{length-map, get_or-map, take_all}
 use Rattle.std.proofs.lemmas.List.Sums.{sum_by-cons, sum_by_more}
 use Rattle.std.proofs.lemmas.Bool.{cases_lt, cases_eq, cond_both, cond-true, cond-false, and_right, ne_eqb, le-leb, lt-leb}
@@ -10,6 +10,8 @@ use Rattle.book.specs.Limits.{most_total}
 use Rattle.book.specs.Sound.{sold_by, seller_total, SoundBook}
 use Rattle.book.specs.States.{in_force}
 use Rattle.book.specs.Terms.{blank, class_number}
+use Rattle.book.specs.declared.contract.Class.{Class}
+use Rattle.book.specs.declared.contract.Class.TheVariants.{Free, Retail, Regulated, Plant}
 use Rattle.book.specs.declared.contract.Contract.{Contract}
 use Rattle.book.specs.declared.sizes.Sizes.{Sizes}
 
@@ -160,6 +162,36 @@ effective_and_cut rule sound short cs i =
 
 -- a seller's totals
 
+-- an amount counts in exactly one of four classes
+pub in_one_class : (stands own : Bool) (class a : ℕ) → (stands ≡ true → (1 ≤ class) × (class ≤ 4)) →
+    cond (stands && (own && eqb class 1)) a 0 + cond (stands && (own && eqb class 2)) a 0
+    + cond (stands && (own && eqb class 3)) a 0 + cond (stands && (own && eqb class 4)) a 0
+    ≡ cond (stands && own) a 0
+in_one_class false own class a h = refl
+in_one_class true false class a h = refl
+in_one_class true true zero a h = omega (arith, h refl)
+in_one_class true true (suc zero) a h = omega arith
+in_one_class true true (suc (suc zero)) a h = omega arith
+in_one_class true true (suc (suc (suc zero))) a h = omega arith
+in_one_class true true (suc (suc (suc (suc zero)))) a h = omega arith
+in_one_class true true (suc (suc (suc (suc (suc n))))) a h = omega (arith, h refl)
+
+pub class_known : (k : Class) → (1 ≤ class_number k) × (class_number k ≤ 4)
+class_known Free = (omega arith, omega arith)
+class_known Retail = (omega arith, omega arith)
+class_known Regulated = (omega arith, omega arith)
+class_known Plant = (omega arith, omega arith)
+
+pub class_totals : (seller : ℕ) (cs : List Contract) →
+    class_sum seller (map claim_of cs) 1 + class_sum seller (map claim_of cs) 2 + class_sum seller (map claim_of cs) 3 + class_sum seller (map claim_of cs) 4
+    ≡ seller_total seller cs
+class_totals seller [] = refl
+class_totals seller (c ∷ cs) =
+    let more : (class : ℕ) → class_sum seller (map claim_of (c ∷ cs)) class ≡ weight seller class (claim_of c) + class_sum seller (map claim_of cs) class =
+    λ class. sum_by-cons (λ x. x) (weight seller class (claim_of c)) (class_weights seller class (map claim_of cs)) in
+    let one = in_one_class (in_force c) (eqb c.terms.seller seller) (class_number c.terms.class) c.terms.amount (λ _. class_known c.terms.class) in
+    omega (arith, more 1, more 2, more 3, more 4, class_totals seller cs, sum_by-cons (sold_by seller) c cs)
+
 pub further_test : (stands own further : Bool) (a : ℕ) → cond (stands && (own && further)) a 0 ≤ cond (stands && own) a 0
 further_test false own further a = omega arith
 further_test true false further a = omega arith
@@ -174,6 +206,11 @@ class_total_most seller class (c ∷ cs) =
     omega (arith, sum_by-cons (λ x. x) (weight seller class (claim_of c)) (class_weights seller class (map claim_of cs)), sum_by-cons (sold_by seller) c cs, sold_weight seller class c, class_total_most seller class cs)
 
 -- the same, for the contracts that the claims are of
+
+pub class_total_sum : (seller class : ℕ) (cs : List Contract) → class_sum seller (map claim_of cs) class ≡ sum_by (λ c. weight seller class (claim_of c)) cs
+class_total_sum seller class [] = refl
+class_total_sum seller class (c ∷ cs) =
+    omega (arith, sum_by-cons (λ x. x) (weight seller class (claim_of c)) (class_weights seller class (map claim_of cs)), sum_by-cons (λ x. weight seller class (claim_of x)) c cs, class_total_sum seller class cs)
 
 pub effective_of_place : (rule : Rule) (short : ℕ) (cs : List Contract) (i : ℕ) (d : Contract) → i < length cs →
     effective_at rule short (map claim_of cs) i
@@ -204,3 +241,6 @@ module _ (sizes : Sizes) (taken : List Contract) (rows shortfalls : List ℕ) (b
 
   pub seller_most : seller_total seller taken ≤ most_total
   seller_most = rw (take_all (length taken) taken (omega arith)) at (seller_front (length taken) (omega arith))
+
+  pub sound_class_total : (class : ℕ) → class_sum seller (map claim_of taken) class ≤ most_total
+  sound_class_total class = omega (arith, seller_most, class_total_most seller class taken)

@@ -1,11 +1,11 @@
 // Whether one more contract of a seller can be in force.
-ghost use Rattle.std.specs.Prelude.{◌≡◌, ◌+◌, nat_le};
+ghost use Rattle.std.specs.Prelude.{◌≡◌, ◌+◌, ◌-◌, ◌≤◌, nat_le};
+ghost use Rattle.std.specs.Option.{SomeIff};
 ghost use Rattle.book.specs.Cuts.{stands_for};
 ghost use Rattle.book.specs.Limits.{most_total};
 ghost use Rattle.book.specs.Sound.{seller_total, sold_by};
 
-use crate::contract::Contract;
-use crate::sound::moderate;
+use crate::contract::{Contract, MOST_TOTAL};
 
 impl Contract {
     // Whether the contract is in force for the seller.
@@ -27,14 +27,21 @@ impl Contract {
     }
 }
 
-// Whether the seller's amounts in force and this amount stay within the limit together. Any number of places may be handed in,
-// so the sum stays at the largest number once it is there.
+// What the limit leaves beside the seller's amounts in force and this amount, if they stay within it. Any number of places may be
+// handed in, so it ends at the place that passes the limit.
+fn room_left(taken: &[Contract], seller: u16, amount: u32) -> Option<u64>
+    ensures { SomeIff result (seller_total seller taken.now + amount ≤ most_total) (most_total - (seller_total seller taken.now + amount)) }
+{
+    let mut left = MOST_TOTAL.checked_sub(u64::from(amount))?;
+    for contract in taken {
+        left = left.checked_sub(u64::from(contract.amount_sold(seller)))?;
+    }
+    Some(left)
+}
+
+// Whether the seller's amounts in force and this amount stay within the limit together.
 pub fn has_room(taken: &[Contract], seller: u16, amount: u32) -> bool
     ensures { result ≡ nat_le (seller_total seller taken.now + amount) most_total }
 {
-    let total = taken
-        .iter()
-        .map(|contract| u64::from(contract.amount_sold(seller)))
-        .fold(u64::from(amount), u64::saturating_add);
-    moderate(total)
+    room_left(taken, seller, amount).is_some()
 }

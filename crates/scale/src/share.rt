@@ -75,12 +75,12 @@ impl<'a, S: Scale> Sharing<'a, S> {
         }
     }
 
-    // The weight of so many parts from the first on.
+    // The weight of so many parts from the first on. Counted from 0: a range that includes its end costs twice the time.
     fn weight_of_first(&self, parts: usize) -> u32
         requires { parts ≤ length (S.Scale.weights self.now.scale.now) }
         ensures { result ≡ sum (take parts (S.Scale.weights self.now.scale.now)) }
     {
-        (1..=parts).map(|part| self.scale.weight(part)).sum()
+        (0..parts).map(|before| self.scale.weight(before + 1)).sum()
     }
 
     // What one part gets, 0 outside the scale.

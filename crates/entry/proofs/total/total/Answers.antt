@@ -1,19 +1,25 @@
-use Rattle.std.proofs.Common.{◌≡◌, sym, ap, ◌∙◌, [], ◌∷◌, arith, rules, tests}
-use Rattle.std.specs.List.{fold, filter_map, range_with_len}
-use Rattle.std.proofs.lemmas.Grind.{fold-append}
+use Rattle.std.proofs.Common.{◌≡◌, ℕ, refl, ◌+◌, ◌-◌, ◌^◌, ◌<◌, min, [], ◌∷◌, ◌++◌, length, get_or, sym, ap, ◌∙◌, subst, arith, rules}
+use Rattle.std.specs.List.{range_with_len}
 use Rattle.std.proofs.lemmas.Iterator.{YieldsList-from_range}
-use Rattle.std.proofs.lemmas.Iterator.Consumers.{YieldsList-from_filter_map}
-use Rattle.entry.proofs.Steps.{fold_all, add, read, reads_total}
+use Rattle.std.proofs.lemmas.List.{length-append}
+use Rattle.std.proofs.lemmas.List.FromFn.{length-range_with_len}
+use Rattle.entry.specs.Kinds.{values}
+use Rattle.entry.proofs.Steps.{fold_all, so_far, Went, goes_on}
 use Rattle.entry.proofs.total.total.Goals as goal
 
 pub returns : goal.returns
 returns g c =
     let j = g.J.Joining in
-    let reads = read j c.args.entries.now c.args.first c.args.step in
-    fold_all c.fold.ensures.ran (λ e. e) (λ es a. j.value a ≡ fold (add j) j.nothing es) (filter_map reads (range_with_len 0 c.args.count))
-    (YieldsList-from_filter_map _ reads (YieldsList-from_range 0 c.args.count c.args.count c.filter_map.ensures.source (omega arith)) c.filter_map.ensures.closure (λ x r q k. search (rules, tests)))
-    c.empty.ensures
-    (λ es a e b f' before k.
-    let next : j.value b ≡ j.joined (j.value a) (j.value e) = search rules in
-    (next ∙ ap (λ v. j.joined v (j.value e)) before ∙ sym (fold-append (add j) j.nothing es (e ∷ [])), search rules))
-    ∙ reads_total j c.args.entries.now c.args.first c.args.step g.met.J.Joining.unit c.args.count
+    let es = c.args.entries.now in
+    let first = c.args.first in
+    let step = c.args.step in
+    let fits : length es < 2 ^ 64 = search rules in
+    let went = fold_all c.fold-sum.ensures.ran (λ (k : ℕ). k) (λ ys b. Went j es first step (length ys) b) (range_with_len 0 c.args.count)
+    (YieldsList-from_range 0 c.args.count c.args.count refl (omega arith))
+    (search rules)
+    (λ ys b x d f' before k.
+    let joined : j.value d.0 ≡ j.joined (j.value b.0) (get_or (values j es) b.1 j.nothing) = search rules in
+    let on : d.1 ≡ min (b.1 + step) (2 ^ 64 - 1) = search rules in
+    let more : length (ys ++ x ∷ []) ≡ length ys + 1 = length-append ys (x ∷ []) in
+    (subst (λ n. Went j es first step n d) (sym more) (goes_on j es first step (length ys) b d fits before joined on), search rules)) in
+    went.0 ∙ ap (so_far j es first step) (length-range_with_len 0 c.args.count)
