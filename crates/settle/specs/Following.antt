@@ -1,5 +1,5 @@
 -- How the board follows one place.
-use Rattle.std.specs.Prelude.{◌≡◌, ℕ, ◌<◌, ◌≤◌, true, false, cond, List, length, sum}
+use Rattle.std.specs.Prelude.{◌≡◌, ℕ, ◌<◌, ◌≤◌, true, false, List, length, sum}
 use Rattle.scale.specs.Shares.{Rule}
 use Rattle.scale.specs.Totals.{limit}
 use Rattle.entry.specs.Kinds.{Kind}
@@ -7,9 +7,11 @@ use Rattle.board.specs.declared.deal.Deal.{Deal}
 use Rattle.board.specs.Lanes.{room_for, fitting}
 use Rattle.book.specs.declared.contract.Contract.{Contract}
 use Rattle.book.specs.States.{in_force}
-use Rattle.board.specs.Moves.{cell, put}
-use Rattle.ledger.specs.Boards.{quantity_of, stays, AllCancel}
+use Rattle.board.specs.Moves.{cell}
+use Rattle.ledger.specs.Boards.{puts, takes_off, stays, AllCancel}
 use Rattle.ledger.specs.Calls.{rounding}
+use Rattle.settle.specs.declared.Way.{Way}
+use Rattle.settle.specs.declared.Way.TheVariants.{On, Off}
 
 -- who sells to whom under a contract, and where
 abbrev pub contract_deal : Contract → Deal
@@ -22,9 +24,10 @@ pub record Movable (entries : ℕ) (row : List ℕ) (c : Contract) : Type 0 wher
   pub most : in_force c ≡ true → sum row ≤ limit
   pub effective : in_force c ≡ true → c.effective ≤ limit
 
--- what a contract in force delivers to a lane at an hour by a deal: its own, or the one that sells back
-abbrev pub delivers : {V : Type 0} → Kind V → Rule → Contract → Deal → List ℕ → ℕ → ℕ → V
-delivers k rule c deal row l hour = cond (in_force c) (put k deal (quantity_of rule c row hour) l) k.nothing
+-- what a contract in force puts on a lane at an hour, or what takes it off again
+abbrev pub delivers : {V : Type 0} → Kind V → Rule → Contract → Way → List ℕ → ℕ → ℕ → V
+delivers k rule c On row l hour = puts k rule c row l hour
+delivers k rule c Off row l hour = takes_off k rule c row l hour
 
 -- every lane has more, at each hour, what is joined to it there
 pub record Joined {V : Type 0} (k : Kind V) (hours : ℕ) (more : ℕ → ℕ → V) (old new : List V) : Type 0 where

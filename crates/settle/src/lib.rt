@@ -1,9 +1,8 @@
 // The board follows the book: what contracts no longer deliver is taken off, and what they now deliver is added.
 #![tactic(auto)]
 
-ghost use Rattle.std.specs.Prelude.{◌≡◌, ◌<◌, ◌≤◌, ◌⊎◌, length, IfSome};
+ghost use Rattle.std.specs.Prelude.{◌≡◌, ◌<◌, ◌≤◌, length, IfSome};
 ghost use Rattle.entry.specs.Kinds.{meaning, values};
-ghost use Rattle.board.specs.Lanes.{sold_back};
 ghost use Rattle.book.specs.Cuts.{recut as recut_by};
 ghost use Rattle.book.specs.Limits.{most_places, most_total};
 ghost use Rattle.book.specs.Sound.{seller_total};
@@ -15,8 +14,8 @@ ghost use Rattle.settle.specs.Settled.{booked, marked, Ready};
 #[cfg(test)]
 mod tests;
 
-use board::add;
 use board::deal::Deal;
+use board::{add, take_off};
 use book::contract::{BLANK, Contract, MOST_PLACES};
 use book::cuts::recut;
 use book::sizes::Sizes;
@@ -47,25 +46,34 @@ fn is_unmoved(old: &Contract, new: &Contract) -> bool
     old.in_force() && new.in_force() && old.effective == new.effective
 }
 
-// Delivers a contract's quantities by a deal, if the contract is in force: its own deal puts them on the board, and the deal
-// sold back takes them off.
+// Which way a contract's quantities go: on to the board, or off it again.
+#[derive(Clone, Copy, PartialEq, Eq, Debug)]
+enum Way {
+    On,
+    Off,
+}
+
+// Moves a contract's quantities on to the board or off it, if the contract is in force.
 fn deliver<E: Reversible>(
     contract: &Contract,
-    deal: &Deal,
+    way: Way,
     row: &[u32],
     quantities: &mut [u32],
     board: &mut [E],
 )
     requires room { length quantities.old ≡ length row.now }
     requires movable { Movable (length board.old) row.now contract.now }
-    requires deal { deal.now ≡ contract_deal contract.now ⊎ deal.now ≡ sold_back (contract_deal contract.now) }
-    ensures cells { Joined (meaning E.Joining E.Reversible.own) (length row.now) (delivers (meaning E.Joining E.Reversible.own) rounding contract.now deal.now row.now) (values E.Joining board.old) (values E.Joining board.new) }
+    ensures cells { Joined (meaning E.Joining E.Reversible.own) (length row.now) (delivers (meaning E.Joining E.Reversible.own) rounding contract.now way row.now) (values E.Joining board.old) (values E.Joining board.new) }
     ensures cancels { AllCancel (meaning E.Joining E.Reversible.own) rounding (length row.now) contract.now row.now }
 {
     if contract.in_force() {
-        // Neither refuses a contract that can be moved.
+        // Neither the sharing nor the move refuses a contract that can be moved.
         share(contract.effective, &RowScale::new(row), quantities).unwrap();
-        add(board, deal, quantities).unwrap();
+        let deal = deal_of(contract);
+        match way {
+            Way::On => add(board, &deal, quantities).unwrap(),
+            Way::Off => take_off(board, &deal, quantities).unwrap(),
+        }
     }
 }
 
@@ -84,8 +92,8 @@ fn move_place<E: Reversible>(
     ensures cancels { BothCancel (meaning E.Joining E.Reversible.own) row.now old.now new.now }
 {
     if !is_unmoved(old, new) {
-        deliver(old, &deal_of(old).reversed(), row, quantities, board);
-        deliver(new, &deal_of(new), row, quantities, board);
+        deliver(old, Way::Off, row, quantities, board);
+        deliver(new, Way::On, row, quantities, board);
     }
 }
 
