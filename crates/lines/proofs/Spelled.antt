@@ -16,9 +16,20 @@ use denote.Ref.{Bor}
 use Rattle.lines.specs.Grammar.{spelled, AllWide, Only}
 use Rattle.lines.proofs.Numbers.{digits_all}
 
+-- what spells numbers is nothing, or begins with a space
+pub starts_with_space : (text ns : List ℕ) → text ≡ spelled ns → 0 < length text → get_or text 0 0 ≡ 32
+starts_with_space text [] e some = absurd (omega (arith, ap length e))
+starts_with_space text (n ∷ ns) e some = ap (λ l. get_or l 0 0) e
+
 -- what stands between the spaces
 abbrev pub parts : List ℕ → List (List ℕ)
 parts text = slice_split (λ b. eqb b 32) text
+
+-- nothing stands before a space with which a text begins
+pub first_part : (text first : List ℕ) → (0 < length text → get_or text 0 0 ≡ 32) → first ≡ get_or (parts text) 0 first → first ≡ []
+first_part [] first begins is = is
+first_part (b ∷ text) first begins is =
+    is ∙ ap (λ l. get_or l 0 first) (slice_split-cons_yes (λ b. eqb b 32) b text (ap (λ b. eqb b 32) (begins (omega arith))))
 
 -- the parts are what a call of `split` gives
 pub from_split : {F : Type 0} {g : Mut F (Bor ℕ × Unit {0}) Bool} {s : _} {f : F} {Q : _} → EachRunFrom (split_steps g) s Q → (text : List ℕ) → split_rest s ≡ text → split_done s ≡ false → split_callee s ≡ f
@@ -76,9 +87,6 @@ module _ (text : List ℕ) where
   module _ (ns : List ℕ) (w : AllWide ns) (e : text ≡ spelled ns) where
     are : parts text ≡ [] ∷ map decimal ns
     are = ap parts e ∙ parts_spelled ns w
-
-    pub starts_empty : (first : List ℕ) → first ≡ get_or (parts text) 0 first → first ≡ []
-    starts_empty first h = h ∙ ap (λ l. get_or l 0 first) are
 
     module _ (word : List ℕ) (k : ℕ) (turn : (suc k < length (parts text)) × (word ≡ get_or (parts text) (suc k) word)) where
       pub in_all : k < length ns

@@ -6,13 +6,9 @@ use Rattle.scale.specs.declared.fault.Fault.{Fault}
 use Rattle.lines.specs.declared.reply.Reply.{Reply}
 use Rattle.lines.specs.declared.reply.Reply.TheVariants.{Done, Refused, At, AtBySource}
 
--- what a refusal reads like: its number and its spot
-abbrev pub refused : Refusal → List ℕ
-refused f = codes "no " ++ (decimal f.number ++ (codes " " ++ decimal f.spot))
-
 abbrev pub spoken : Reply → List ℕ
 spoken Done = codes "ok"
-spoken (Refused fault) = refused (told fault)
+spoken (Refused number spot) = codes "no " ++ (decimal number ++ (codes " " ++ decimal spot))
 spoken (At net) = codes "at " ++ signed_decimal net
 spoken (AtBySource conventional incentivised) = codes "at " ++ (signed_decimal conventional ++ (codes " " ++ signed_decimal incentivised))
 
@@ -20,11 +16,14 @@ spoken (AtBySource conventional incentivised) = codes "at " ++ (signed_decimal c
 abbrev pub spoken_line : Reply → List ℕ
 spoken_line r = spoken r ++ (10 ∷ [])
 
--- a refusal as a line
+-- the reply to a refusal, and the line that it is
+abbrev pub refused : Refusal → Reply
+refused f = Refused f.number f.spot
+
 abbrev pub refused_line : Refusal → List ℕ
-refused_line f = refused f ++ (10 ∷ [])
+refused_line f = spoken_line (refused f)
 
 -- the reply to a call that is accepted or refused, and tells no more
 abbrev pub acknowledged : {A : Type 0} → Result A Fault → Reply
 acknowledged (Ok a) = Done
-acknowledged (Err fault) = Refused fault
+acknowledged (Err fault) = refused (told fault)

@@ -4,6 +4,7 @@ ghost use Rattle.std.specs.Option.{SomeIff};
 ghost use Rattle.lines.specs.Grammar.{spelled, Only, AllWide, AllShort, Means, Parsed, Exact, Within};
 
 use crate::command::Command;
+use crate::hold::LONGEST;
 use arrayvec::ArrayVec;
 
 // The number that the whole of `text` writes: digits alone, with no zero in front.
@@ -21,10 +22,13 @@ fn number(text: &[u8]) -> Option<u64>
 fn read_numbers(text: &[u8]) -> Option<ArrayVec<u64, 9>>
     ensures { MatchOption result ((ns : List ℕ) → AllWide ns → length ns ≤ 9 → text.now ≢ spelled ns) (λ v. Only text.now v.items) }
 {
-    let mut words = text.split(|b| *b == b' ');
-    if !words.next()?.is_empty() {
+    // What begins otherwise is looked at no further.
+    if text.first().is_some_and(|b| *b != b' ') {
         return None;
     }
+    let mut words = text.split(|b| *b == b' ');
+    // Nothing stands before the first space.
+    words.next()?;
     let mut numbers = ArrayVec::new();
     for word in words {
         numbers.try_push(number(word)?).ok()?;
@@ -155,6 +159,10 @@ pub fn parse_line(line: &[u8]) -> Option<Command>
     ensures exact { Exact line.now result }
     ensures within { Within line.now result }
 {
+    // No command is so long, and of a longer text no more is looked at.
+    if line.len() > LONGEST {
+        return None;
+    }
     let (letter, rest) = line.split_first()?;
     meant(*letter, read_numbers(rest)?.as_slice())
 }

@@ -1,14 +1,18 @@
 // What is replied to a line, but for a certificate line.
 ghost use Rattle.std.specs.Prelude.{◌≡◌};
-ghost use Rattle.lines.specs.Spoken.{acknowledged};
-ghost use Rattle.lines.specs.declared.reply.Reply.TheVariants.{Refused};
+ghost use Rattle.scale.specs.Refusals.{told};
+ghost use Rattle.lines.specs.Spoken.{acknowledged, refused};
 
 use scale::fault::Fault;
 
+// A refusal is told by its number and spot, and a reply may tell any.
 #[derive(Clone, Copy, PartialEq, Eq, Debug)]
 pub enum Reply {
     Done,
-    Refused(Fault),
+    Refused {
+        number: u16,
+        spot: usize,
+    },
     At {
         net: i64,
     },
@@ -20,10 +24,13 @@ pub enum Reply {
 
 // The reply that tells a refusal.
 impl From<Fault> for Reply {
-    ghost from_gives = { λ fault reply. reply ≡ Refused fault };
+    ghost from_gives = { λ fault reply. reply ≡ refused (told fault) };
 
     fn from(fault: Fault) -> Reply {
-        Reply::Refused(fault)
+        Reply::Refused {
+            number: fault.reason.number(),
+            spot: fault.spot,
+        }
     }
 }
 

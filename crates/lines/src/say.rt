@@ -19,11 +19,11 @@ fn put_words(pen: &mut Pen, reply: Reply)
 {
     match reply {
         Reply::Done => pen.text(b"ok"),
-        Reply::Refused(fault) => {
+        Reply::Refused { number, spot } => {
             pen.text(b"no ");
-            pen.number(fault.reason.number());
+            pen.number(number);
             pen.text(b" ");
-            pen.number(fault.spot);
+            pen.number(spot);
         }
         Reply::At { net } => {
             pen.text(b"at ");

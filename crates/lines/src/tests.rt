@@ -4,7 +4,6 @@ use crate::hold::LineHold;
 use crate::parse::parse_line;
 use crate::reply::Reply;
 use crate::say::{ROOM, put_reply};
-use scale::fault::{Fault, Reason};
 use std::test::Fail;
 
 #[test]
@@ -81,10 +80,10 @@ fn writes_replies(rt: HostRuntime) {
     let mut page = [0u8; ROOM];
     let n = put_reply(
         &mut page,
-        Reply::Refused(Fault {
-            reason: Reason::StateUnfit,
+        Reply::Refused {
+            number: 10,
             spot: 1,
-        }),
+        },
     );
     assert!(rt; &page[0..n] == b"no 10 1\n".as_slice());
     let n = put_reply(

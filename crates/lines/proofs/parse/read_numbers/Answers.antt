@@ -1,14 +1,13 @@
-use Rattle.std.proofs.Common.{◌≡◌, ◌^◌, ◌<◌, refl, ap, ◌++◌, decimal, Some, length, [], ◌∷◌, arith, rules, tests}
-use Rattle.std.proofs.lemmas.List.{length-map, nil_from_length}
+use Rattle.std.proofs.Common.{◌≡◌, ◌≢◌, ◌^◌, ◌<◌, get_or, refl, ap, ◌++◌, decimal, Some, length, [], ◌∷◌, arith, rules, tests}
+use Rattle.std.proofs.lemmas.List.{length-map}
 use Rattle.std.proofs.lemmas.Iterator.Consumers.{YieldsList-turn, YieldsList-end}
-use Rattle.lines.proofs.Spelled.{from_split, only, starts_empty, in_all, a_number, said, wide_push}
+use Rattle.lines.proofs.Spelled.{starts_with_space, from_split, first_part, only, in_all, a_number, said, wide_push}
 use Rattle.lines.proofs.parse.read_numbers.Goals as goal
 
-pub returns-then-not-is_empty : goal.returns-then-not-is_empty
-returns-then-not-is_empty c =
-    let all = from_split c.split-words.ensures.runs c.args.text.now c.split-words.ensures.rest c.split-words.ensures.done c.split-words.ensures.closure (λ x r q k. search (rules, tests)) in
-    let turn = YieldsList-turn all [] _ refl (Some c.in_ok-next.field-0) c.next.new.self c.in_ok-next.field-0 refl c.in_ok-next.ensures.steps in
-    λ ns w few e. let none = ap length (starts_empty c.args.text.now ns w e c.in_ok-next.field-0.now turn.1) in grind (arith, tests)
+pub returns-then-is_some_and : goal.returns-then-is_some_and
+returns-then-is_some_and c =
+    let other : (0 < length c.args.text.now) × (get_or c.args.text.now 0 0 ≢ 32) = search (rules, tests) in
+    λ ns w few e. other.1 (starts_with_space c.args.text.now ns e other.0)
 
 pub returns-in_err-number : goal.returns-in_err-number
 returns-in_err-number c =
@@ -33,5 +32,7 @@ pub returns : goal.returns
 returns c =
     let all = from_split c.split-words.ensures.runs c.args.text.now c.split-words.ensures.rest c.split-words.ensures.done c.split-words.ensures.closure (λ x r q k. search (rules, tests)) in
     let end = YieldsList-end all (c.in_ok-next.field-0 ∷ c.loop-word.yielded) _ (_, c.in_ok-next.ensures.steps, rw c.into_iter-word-iterator.ensures.into_iter_gives at c.loop-word.yielded_by) _ c.next-in-loop-word.new.self c.in-None.is c.next-in-loop-word.ensures.steps in
-    let none : c.in_ok-next.field-0.now ≡ [] = nil_from_length _ (grind (arith, tests)) in
+    let turn = YieldsList-turn all [] _ refl (Some c.in_ok-next.field-0) c.next.new.self c.in_ok-next.field-0 refl c.in_ok-next.ensures.steps in
+    let begins : 0 < length c.args.text.now → get_or c.args.text.now 0 0 ≡ 32 = search (rules, tests) in
+    let none : c.in_ok-next.field-0.now ≡ [] = first_part c.args.text.now c.in_ok-next.field-0.now begins turn.1 in
     only c.args.text.now c.loop-word.numbers.items c.loop-word.invariant.1 (let e = end.0 in let h = c.loop-word.invariant.0 in cc)

@@ -6,9 +6,8 @@ use Rattle.lines.proofs.say.put_words.Goals as goal
 
 pub returns-in-Refused-clause-wrote : goal.returns-in-Refused-clause-wrote
 returns-in-Refused-clause-wrote c =
-    let number = rw c.number.ensures at c.number-in-Refused.ensures.wrote in
-    let spot = then c.text-in-Refused-2.ensures.wrote c.number-in-Refused-2.ensures.wrote in
-    rw c.in-Refused.is (then c.text-in-Refused.ensures.wrote (then number spot))
+    let spot = then c.text-in-Refused-2.ensures.wrote c.number-in-Refused.ensures.wrote in
+    rw c.in-Refused.is (then c.text-in-Refused.ensures.wrote (then c.number.ensures.wrote spot))
 
 pub returns-in-At-clause-wrote : goal.returns-in-At-clause-wrote
 returns-in-At-clause-wrote c =
