@@ -81,8 +81,8 @@ impl<'a, E: Kind + Drop> Stage<'a, E> {
         self.go_through(phase, calls, Ok(()), times)
     }
 
-    // The phases of the open month, in turn.
-    fn run(&mut self, name: &str) -> anyhow::Result<()> {
+    // The phases of the open month, in turn. Answers the times that are shown once the certificate lines agree too.
+    fn run(&mut self) -> anyhow::Result<[Times; 4]> {
         let heap = self.rt.alloc();
         let mut untold = Times::new(heap, "offer");
         let mut confirm = Times::new(heap, "confirm");
@@ -100,11 +100,7 @@ impl<'a, E: Kind + Drop> Stage<'a, E> {
         self.tell_all("told another", SECOND, &mut tell)?;
         self.confirm_all("repeated again and refused 10", Err(10), &mut repeat)?;
         self.go_through("ended", endings, Ok(()), &mut end)?;
-        confirm.show(self.rt, name)?;
-        repeat.show(self.rt, name)?;
-        tell.show(self.rt, name)?;
-        end.show(self.rt, name)?;
-        Ok(())
+        Ok([confirm, repeat, tell, end])
     }
 }
 
@@ -128,34 +124,38 @@ fn certify<E: Kind + Drop>(
     Ok(())
 }
 
-// Goes through all phases of an opened month, and closes it.
+// Goes through all phases of an opened month, and closes it. Answers the times to show.
 fn live<E: Kind + Drop>(
     rt: &HostRuntime,
-    name: &str,
     staged: &mut Staged<E>,
     mut month: Month<Open>,
-) -> anyhow::Result<()> {
+) -> anyhow::Result<[Times; 4]> {
     let mut stage = Stage {
         rt,
         staged: &mut *staged,
         month: &mut month,
     };
-    let ran = stage.run(name);
+    let ran = stage.run();
     let closed = month.close();
     let certified = certify(rt, staged, &closed);
     closed.discard();
-    ran?;
-    certified
+    let times = ran?;
+    certified?;
+    Ok(times)
 }
 
 // Stages the month in one kind of entry.
 fn stage_in<E: Kind + Drop>(rt: &HostRuntime, name: &str) -> anyhow::Result<()> {
     println!(rt; "{name}: {AGENTS} agents, {HOURS} hours, {PLACES} places")?;
     let mut staged: Staged<E> = Staged::new(rt.alloc(), AGENTS, HOURS, PLACES)?;
-    match staged.open() {
-        Ok(month) => live(rt, name, &mut staged, month),
-        Err(_) => bail!("the month is not opened"),
+    let Ok(month) = staged.open() else {
+        bail!("the month is not opened");
+    };
+    let mut shown = live(rt, &mut staged, month)?;
+    for times in shown.iter_mut() {
+        times.show(rt, name)?;
     }
+    Ok(())
 }
 
 fn both(rt: &HostRuntime) -> anyhow::Result<()> {
