@@ -11,8 +11,7 @@ use Rattle.ledger.proofs.Told.{turnover_told}
 use Rattle.lines.specs.declared.command.Command.{Command}
 use Rattle.lines.specs.declared.command.Command.TheVariants.{Position, Certificate}
 use Rattle.lines.specs.declared.reply.Reply.{Reply}
-use Rattle.lines.specs.declared.reply.Reply.TheVariants as replies
-use Rattle.lines.specs.Spoken.{spoken_line, refused_line}
+use Rattle.lines.specs.Spoken.{spoken_line, refused, refused_line}
 use Rattle.page.specs.Page.{Fronted}
 use Rattle.month.specs.Line.{certificate_line}
 use Rattle.month.specs.Questions.{bought, certified}
@@ -58,14 +57,14 @@ module _ {V : Type 0} (k : Kind V) (tell : Showing V) where
 
   -- the reply to a position: what was told, or the refusal
   told_at : (agent submarket hour : ℕ) (held : Option (Held V)) (y : Result Reply Fault) (reply : Reply) → PositionAsked k tell agent submarket hour held y
-      → MatchResult y (λ x. reply ≡ x) (λ f. reply ≡ replies.Refused f) → DeskTurned k tell (Position agent submarket hour) held (spoken_line reply) held
+      → MatchResult y (λ x. reply ≡ x) (λ f. reply ≡ refused (told f)) → DeskTurned k tell (Position agent submarket hour) held (spoken_line reply) held
   told_at agent submarket hour None (Ok x) reply h e = nothing h
   told_at agent submarket hour None (Err f) reply h e = (ap spoken_line e ∙ ap ack h, refl)
   told_at agent submarket hour (Some s) (Ok x) reply h e = (s, refl, (rw (sym h.0) (x, ap spoken_line e, h.1), refl))
   told_at agent submarket hour (Some s) (Err f) reply h e = (s, refl, (rw (sym h.0) (ap spoken_line e), refl))
 
   pub located : (c : Command) (agent submarket hour : ℕ) → c ≡ Position agent submarket hour → (held : Option (Held V)) (y : Result Reply Fault) (reply : Reply)
-      → PositionAsked k tell agent submarket hour held y → MatchResult y (λ x. reply ≡ x) (λ f. reply ≡ replies.Refused f)
+      → PositionAsked k tell agent submarket hour held y → MatchResult y (λ x. reply ≡ x) (λ f. reply ≡ refused (told f))
       → (page after : List ℕ) (n : ℕ) → Fronted (spoken_line reply) page after n → Replied (λ line. DeskTurned k tell c held line held) page after n
   located c agent submarket hour is held y reply h e page after n put = replied c _ is held held (spoken_line reply) page after n (told_at agent submarket hour held y reply h e) put
 
@@ -95,7 +94,7 @@ module _ {V : Type 0} (k : Kind V) (tell : Showing V) where
   unasked agent (Some x) before after f h = unwritten agent x.closed x.state before after f h
 
   pub uncertified : (c : Command) (agent : ℕ) → c ≡ Certificate agent → (held : Option (Held V)) (before page : List ℕ) (f : Fault) → CertificateAsked agent held before page (Err f)
-      → (reply : Reply) → reply ≡ replies.Refused f → (after : List ℕ) (n : ℕ) → Fronted (spoken_line reply) page after n → Replied (λ line. DeskTurned k tell c held line held) before after n
+      → (reply : Reply) → reply ≡ refused (told f) → (after : List ℕ) (n : ℕ) → Fronted (spoken_line reply) page after n → Replied (λ line. DeskTurned k tell c held line held) before after n
   uncertified c agent is held before page f h reply e after n put =
       let p = unasked agent held before page f h in
       replied c _ is held held (refused_line (told f)) before after n p.1 (rw (e, p.0) at put)
