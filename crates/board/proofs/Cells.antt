@@ -1,11 +1,19 @@
 -- A board of values, one lane written after the other. Assumes nothing.
-use Rattle.std.proofs.Common.{◌≡◌, ℕ, ◌+◌, ◌-◌, ◌*◌, ◌<◌, ◌≤◌, eqb, ◌≢◌, List, ◌++◌, map, length, get_or, take, drop, sym, ap, ◌∙◌, subst, inl, inr, mul-le-mul_right, add-mul, one-mul, arith}
+use Rattle.std.proofs.Common.{◌≡◌, ℕ, ◌+◌, ◌-◌, ◌*◌, ◌/◌, ◌%◌, ◌<◌, ◌≤◌, eqb, ◌≢◌, List, ◌++◌, map, length, get_or, take, drop, sym, ap, ◌∙◌, subst, inl, inr, mul-le-mul_right, add-mul, one-mul, arith}
 use borrow.Rule.Slice.PartMut.{put_mid, post_of, same_len_mid}
+use lib.Arith.{digits_div, digits_mod}
 use Rattle.std.proofs.lemmas.List.{get_or_append_left, get_or-append_right, get_or-take, get_or-drop, length-take-le, length-drop, take-map, drop-map, map-append, length-map}
 use Rattle.std.proofs.lemmas.Bool.{cases_eq, cases_lt, eq-eqb, ne_eqb, cond-true, cond-false}
 use Rattle.entry.specs.declared.source.Source.{Source}
 use Rattle.entry.specs.Kinds.{Kind, Laws, Cancels, joins}
 use Rattle.board.specs.Moves.{cell, share, Moved}
+
+-- two places are one only at one lane and one hour
+pub same_lane : (l m h t u : ℕ) → t < h → u < h → l * h + t ≡ m * h + u → l ≡ m
+same_lane l m h t u p q e = sym (digits_div l p) ∙ ap (λ x. x / h) e ∙ digits_div m q
+
+pub same_hour : (l m h t u : ℕ) → t < h → u < h → l * h + t ≡ m * h + u → t ≡ u
+same_hour l m h t u p q e = sym (digits_mod l p) ∙ ap (λ x. x % h) e ∙ digits_mod m q
 
 -- a lane lies within the board
 lane_within : (l h n : ℕ) → (l + 1) * h ≤ n → l * h + h ≤ n

@@ -67,8 +67,8 @@ impl Contract {
     pub fn amount_in(&self, seller: u16, class: Class) -> u32
         ensures { result ≡ weight_of seller (class_number class) (claim_of self.now) }
     {
-        if self.terms.class == class {
-            self.amount_sold(seller)
+        if self.sells_in(seller, class) {
+            self.terms.amount
         } else {
             0
         }

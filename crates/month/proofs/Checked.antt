@@ -1,10 +1,25 @@
 -- Checks that passed, one after another.
-use Rattle.std.proofs.Common.{◌≡◌, ℕ, ◌*◌, ◌≤◌, leb, None, sym}
+use Rattle.std.proofs.Common.{◌≡◌, ℕ, ◌*◌, ◌≤◌, leb, List, [], ◌∷◌, Some, None, Option, sym, ◌∙◌, refl, arith}
 use Rattle.std.proofs.lemmas.Bool.{eqb-true, leb-true, and_parts}
-use Rattle.scale.specs.Refusals.{unless}
+use Rattle.scale.specs.Refusals.{Refusal, unless, first_of}
 use Rattle.book.specs.Limits.{between}
 use Rattle.ledger.specs.Checks.{length_check}
 use Rattle.ledger.proofs.Numbers.{first_none as passed, unless_none as held}
+
+refused : {X : Type 0} {r : Refusal} → ◌≡◌ {A = Option Refusal} (Some r) None → X
+refused e = absurd (let z : ◌≡◌ {A = ℕ} 0 1 = cc in omega arith)
+
+-- the first of several checks passed, so the others decide
+pub first_none : (x : Option Refusal) (xs : List (Option Refusal)) → x ≡ None → first_of (x ∷ xs) ≡ first_of xs
+first_none None xs e = refl
+first_none (Some r) xs e = refused e
+
+pub first_some : (x : Option Refusal) (xs : List (Option Refusal)) (r : Refusal) → x ≡ Some r → first_of (x ∷ xs) ≡ Some r
+first_some None xs r e = refused (sym e)
+first_some (Some q) xs r e = e
+
+pub both_pass : (x y : Option Refusal) → None ≡ x → None ≡ y → None ≡ first_of (x ∷ y ∷ [])
+both_pass x y p q = sym (first_none x (y ∷ []) (sym p) ∙ first_none y [] (sym q))
 
 -- memories that passed are as long as the sizes say
 pub record Long (agents hours size p r f b : ℕ) : Type 0 where

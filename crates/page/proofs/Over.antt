@@ -1,10 +1,14 @@
 -- One text written after another.
-use Rattle.std.proofs.Common.{◌≡◌, ℕ, ◌+◌, ◌^◌, ◌<◌, ◌≤◌, List, ◌++◌, length, take, drop, decimal, sym, ap, ◌∙◌, append_assoc, refl, zero-add, arith, length-append, ℤ, w64, SFits}
+use Rattle.std.proofs.Common.{◌≡◌, ℕ, ◌+◌, ◌^◌, ◌<◌, ◌≤◌, List, ◌++◌, length, take, drop, decimal, sym, ap, ◌∙◌, append_assoc, refl, zero-add, arith, length-append, length-drop, ℤ, w64, SFits}
 use Rattle.std.proofs.lemmas.List.{take_at, drop_at, drop-drop, length-take-le}
 use Rattle.std.proofs.lemmas.Fmt.{length-decimal-le, length_signed_le}
 use Rattle.std.specs.Fmt.{signed_decimal}
 use Rattle.page.specs.declared.pen.Pen.{Pen}
 use Rattle.page.specs.Page.{over, Fronted, Wrote}
+
+-- what is written over a page leaves it as long as it was
+pub length_over : (at : ℕ) (bs page : List ℕ) → at + length bs ≤ length page → length (over at bs page) ≡ length page
+length_over at bs page h = simp (length-append, length-drop) (omega (arith, length-take-le at page (omega arith)))
 
 over_then : (at : ℕ) (bs cs page : List ℕ) → at + length bs ≤ length page → over (at + length bs) cs (over at bs page) ≡ over at (bs ++ cs) page
 over_then at bs cs page h =

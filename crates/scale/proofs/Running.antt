@@ -184,3 +184,7 @@ part_value rule q ws p W before w low high h k e b x u v = let r = part_share ru
 pub no_part_share : (rule : Rule) (q : ℕ) (ws : List ℕ) (p : ℕ) → (p < 1) ⊎ (length ws < p) → weight_at (shares_of rule q ws) p ≡ 0
 no_part_share rule q ws p (inl h) = weight_zero (shares_of rule q ws) p h
 no_part_share rule q ws p (inr h) = weight_past (shares_of rule q ws) p (omega (arith, length_shared (rule q (sum ws)) 0 ws))
+
+-- a part of a running total is at most the amount
+pub run_le : (q W : ℕ) (run : ℕ → ℕ) → Running q W run → (w : ℕ) → w ≤ W → run w ≤ q
+run_le q W run rule w h = omega (arith, run_rising q W run rule w W h, run_whole q W run rule)

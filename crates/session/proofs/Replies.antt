@@ -27,7 +27,7 @@ nothing : {X : Type 0} {r : Refusal} → ◌≡◌ {A = Option Refusal} None (So
 nothing e = absurd (let z : ◌≡◌ {A = ℕ} 0 1 = cc in omega arith)
 
 -- the line certifies, in every life, what the ledger says
-certified_told : {V : Type 0} (s : State V) (agent : ℕ) →
+pub certified_told : {V : Type 0} (s : State V) (agent : ℕ) →
     OfEveryLife s (λ past. certified s agent ≡ certificate_line agent (amount_sold (ledger past) agent) (amount_bought (ledger past) agent))
 certified_told s agent k laws past life =
     ap (λ (n : ℕ). certificate_line agent n (bought agent (contracts s))) (turnover_told s (λ o. o.seller) agent k laws past life)
