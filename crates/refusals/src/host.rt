@@ -1,6 +1,8 @@
 // The four memories, and what a host may do to them between calls. (The hosts of `trial` and `trials` may do less, and compare more.)
+use crate::mark::Mark;
 use crate::order::Step;
 use crate::script::Line;
+use crate::told::Told;
 use book::contract::{BLANK, Class, Contract, State};
 use entry::kinds::{BySource, Net};
 use entry::source::Source;
@@ -13,21 +15,12 @@ use std::alloc::{AllocError, Global};
 // that was cleared.
 #[derive(Drop)]
 pub struct Host {
-    pub heap: Global,
+    heap: Global,
     pub places: Vec<Contract>,
     pub rows: Vec<u32>,
     pub owed: Vec<u64>,
     pub board: Vec<Net>,
     pub by_source: Vec<BySource>,
-}
-
-// What the four memories of a month held.
-#[derive(PartialEq, Eq, Drop)]
-pub struct Held {
-    places: Vec<Contract>,
-    rows: Vec<u32>,
-    owed: Vec<u64>,
-    board: Vec<i64>,
 }
 
 const LEFT: Net = Net { units: 5 };
@@ -74,18 +67,31 @@ impl Host {
         })
     }
 
-    // What the four memories hold.
-    pub fn held(&self) -> Result<Held, AllocError> {
-        Ok(Held {
-            places: self.places.clone()?,
-            rows: self.rows.clone()?,
-            owed: self.owed.clone()?,
-            board: self
-                .board
-                .iter()
-                .map(|entry| entry.units)
-                .collect(self.heap)?,
-        })
+    // A mark of all that the four memories hold.
+    pub fn mark(&self) -> Mark {
+        let mut mark = Mark::START;
+        for contract in self.places.iter() {
+            mark = mark.with_contract(contract);
+        }
+        for number in self.rows.iter() {
+            mark = mark.with(*number);
+        }
+        for number in self.owed.iter() {
+            mark = mark.with(*number);
+        }
+        for entry in self.board.iter() {
+            mark = mark.with(entry.units.cast_unsigned());
+        }
+        mark
+    }
+
+    // What an answer is told: of a refusal, whether it moved something since a mark.
+    pub fn told(&self, before: Mark, answer: Result<(), Fault>) -> Told {
+        match answer {
+            Ok(()) => Told::Passed,
+            Err(_) if self.mark() != before => Told::Moved,
+            Err(fault) => Told::from(fault),
+        }
     }
 
     // The four memories, lent for a question.

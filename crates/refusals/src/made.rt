@@ -1,9 +1,8 @@
 // The calls that lines stand for: each is made of a month, which the caller owns and may change, and of a line.
 use crate::host::Host;
-use crate::order::{BoardQuestion, Call, Change, Question};
+use crate::order::{BoardQuestion, Call, Change, Order, Question};
 use crate::script::Line;
 use crate::told::Told;
-use anyhow::bail;
 use book::contract::Offer;
 use entry::kinds::{BySource, Net};
 use month::phase::{Closed, Month, Open};
@@ -26,7 +25,7 @@ impl From<&Line> for Offer {
     }
 }
 
-// What an answer tells, whatever it carries.
+// What an answer tells, whatever it carries: a function, since eight answers need it.
 fn only<T: Drop>(answer: Result<T, Fault>) -> Result<(), Fault> {
     answer.map(|_| ())
 }
@@ -42,8 +41,13 @@ impl Host {
         )
     }
 
-    // Confirms on the row scale of weights.
-    fn confirm(&mut self, month: &Month<Open>, line: &Line, weights: &[u32]) -> Result<(), Fault> {
+    // Confirms on the row scale of the line's weights: the numbers after the first two, up to eight.
+    fn confirm(&mut self, month: &Month<Open>, line: &Line) -> Result<(), Fault> {
+        let mut weights = [0u32; 8];
+        for (i, weight) in weights.iter_mut().enumerate() {
+            *weight = line.number(i.wrapping_add(2));
+        }
+        let given = line.given().saturating_sub(2).min(8);
         month.confirm(
             self.places.as_mut_slice(),
             self.rows.as_mut_slice(),
@@ -51,7 +55,7 @@ impl Host {
             self.board.as_mut_slice(),
             line.number(0),
             line.number(1),
-            &RowScale::new(weights),
+            &RowScale::new(&weights[..given]),
         )
     }
 
@@ -107,59 +111,54 @@ impl Host {
         }
     }
 
-    fn change(
-        &mut self,
-        month: &mut Month<Open>,
-        change: Change,
-        line: &Line,
-    ) -> anyhow::Result<Result<(), Fault>> {
-        Ok(match change {
-            Change::Offer => self.offer(month, line),
-            Change::Confirm => {
-                let weights = line.weights(self.heap)?;
-                self.confirm(month, line, weights.as_slice())
-            }
-            Change::End => self.end(month, line),
-            Change::Tell => self.tell(month, line),
-        })
+    // A question of either sort: a balance, where the order is none.
+    fn question<P>(&self, month: &Month<P>, order: Order, line: &Line) -> Result<(), Fault> {
+        match order {
+            Order::Call(Call::Ask(question)) => self.ask(month, question, line),
+            Order::Call(Call::AskBoard(question)) => self.ask_board(month, question, line),
+            _ => self.ask_board(month, BoardQuestion::Balance, line),
+        }
     }
 
-    // Makes a call of an open month, and says what it is told.
-    pub fn call(
-        &mut self,
-        month: &mut Month<Open>,
-        call: Call,
-        line: &Line,
-    ) -> anyhow::Result<Told> {
-        let before = self.held()?;
-        let answer = match call {
-            Call::Change(change) => self.change(month, change, line)?,
-            Call::Ask(question) => self.ask(month, question, line),
-            Call::AskBoard(question) => self.ask_board(month, question, line),
-            Call::Open | Call::Certify => bail!("no call of an open month"),
-        };
-        Ok(Told::from(answer).unless_moved(self.held()? != before))
+    // Makes one call, and says what it is told: of a refusal, whether it moved something.
+    fn watch<F: FnOnce(&mut Host) -> Result<(), Fault>>(&mut self, make: F) -> Told
+        requires { F.IsAlwaysCallable make }
+    {
+        let before = self.mark();
+        let answer = make(self);
+        self.told(before, answer)
+    }
+
+    // Makes a call of an open month, a change or a question, and says what it is told. Each is watched by itself: of answers that are
+    // brought together first, the compiler no longer sees that the refused ones wrote nothing, and marks everything once more.
+    pub fn call(&mut self, month: &mut Month<Open>, order: Order, line: &Line) -> Told {
+        match order {
+            Order::Call(Call::Change(Change::Offer)) => self.watch(|host| host.offer(month, line)),
+            Order::Call(Call::Change(Change::Confirm)) => {
+                self.watch(|host| host.confirm(month, line))
+            }
+            Order::Call(Call::Change(Change::End)) => self.watch(|host| host.end(month, line)),
+            Order::Call(Call::Change(Change::Tell)) => self.watch(|host| host.tell(month, line)),
+            _ => self.watch(|host| host.question(month, order, line)),
+        }
     }
 
     // A certificate line on a page of so many bytes, on which a refusal may write nothing.
     fn certificate(&self, month: &Month<Closed>, agent: u16, room: usize) -> Told {
         let mut page = [b'#'; 65];
-        let answer = month.certificate(self.memories(), agent, &mut page[0..room.min(65)]);
-        Told::from(only(answer)).unless_moved(page != [b'#'; 65])
+        match month.certificate(self.memories(), agent, &mut page[..room.min(65)]) {
+            Ok(_) => Told::Passed,
+            Err(fault) if page == [b'#'; 65] => Told::from(fault),
+            Err(_) => Told::Moved,
+        }
     }
 
-    // Makes a call of a closed month, and says what it is told.
-    pub fn call_closed(
-        &self,
-        month: &Month<Closed>,
-        call: Call,
-        line: &Line,
-    ) -> anyhow::Result<Told> {
-        Ok(match call {
-            Call::Ask(question) => Told::from(self.ask(month, question, line)),
-            Call::Certify => self.certificate(month, line.number(0), line.number(1)),
-            Call::AskBoard(question) => Told::from(self.ask_board(month, question, line)),
-            Call::Open | Call::Change(_) => bail!("no call of a closed month"),
-        })
+    // Makes a call of a closed month, a certificate line or a question, and says what it is told.
+    pub fn call_closed(&self, month: &Month<Closed>, order: Order, line: &Line) -> Told {
+        if order == Order::Call(Call::Certify) {
+            return self.certificate(month, line.number(0), line.number(1));
+        }
+        self.question(month, order, line)
+            .map_or_else(Told::from, |_| Told::Passed)
     }
 }

@@ -7,104 +7,106 @@
 
 mod host;
 mod made;
+mod mark;
 mod order;
 mod script;
 mod tally;
 mod told;
 
-use anyhow::bail;
+use anyhow::{anyhow, bail, ensure};
 use host::Host;
 use month::phase::{Closed, Month, Open};
-use order::{Call, Order};
-use script::Line;
-use std::alloc::AllocError;
-use std::io;
-use std::slice::Iter;
+use order::Order;
+use script::{Line, Script};
+use std::io::Read;
 use tally::Tally;
 use told::Told;
 
-// The host whose memories the lines speak of, and the refusals met so far.
+// More lines than a script has.
+const MANY: u32 = 100_000;
+
+// The script, the host whose memories its lines speak of, and the refusals met so far.
 #[derive(Drop)]
-struct Trial<'a> {
-    rt: &'a HostRuntime,
+struct Trial<'r, 't> {
+    rt: &'r HostRuntime,
+    script: Script<'t>,
     host: Host,
     tally: Tally,
 }
 
-impl<'a> Trial<'a> {
-    // Holds what a line was told against what it says.
-    fn judge(&mut self, call: Call, line: &Line, told: Told) -> anyhow::Result<()> {
-        self.tally.note(call, told)?;
-        if line.wanted == Some(told) {
-            return Ok(());
-        }
-        let at = line.at;
-        println!(self.rt; "line {at}: told {told}")?;
-        bail!("a line is told something else")
+impl Trial<'_, '_> {
+    // Whether the line was told what it says.
+    fn agrees(&mut self, order: Order, told: Told) -> bool {
+        self.tally.note(order, told);
+        told == self.script.line.wanted()
     }
 
-    // The lines up to the order that ends them, whose line it answers if it comes; a closure makes their calls.
-    fn take_until<'b, F: FnMut(&mut Host, Call, &Line) -> anyhow::Result<Told>>(
+    // Prints what the line was told that says something else, and answers the error.
+    fn differ(&self, told: Told) -> anyhow::Error {
+        let at = self.script.line.at;
+        match println!(self.rt; "line {at}: told {told}") {
+            Ok(()) => anyhow!("a line is told something else"),
+            Err(error) => anyhow::Error::from(error),
+        }
+    }
+
+    // Holds what the line was told against what it says.
+    fn judge(&mut self, order: Order, told: Told) -> anyhow::Result<()> {
+        if self.agrees(order, told) {
+            Ok(())
+        } else {
+            Err(self.differ(told))
+        }
+    }
+
+    // The lines up to the order that ends them: whether it comes. A closure makes their calls, and takes for one whatever a line
+    // orders. Only a line that differs makes an error, since room for one at each line is a tenth of a short line's time.
+    fn take_until<F: FnMut(&mut Host, Order, &Line) -> Told>(
         &mut self,
         end: Order,
-        lines: &mut Iter<'b, Line>,
         mut make: F,
-    ) -> anyhow::Result<Option<&'b Line>>
+    ) -> anyhow::Result<bool>
         requires { F.IsAlwaysCallable make }
     {
-        for line in lines.by_ref() {
-            match line.order {
-                Order::Prepare(step) => self.host.prepare(step, line)?,
-                Order::Call(call) => {
-                    let told = make(&mut self.host, call, line)?;
-                    self.judge(call, line, told)?;
+        for _ in 0..MANY {
+            match self.script.next_order() {
+                Order::Prepare(step) => self.host.prepare(step, &self.script.line)?,
+                order if order == end => return Ok(true),
+                order => {
+                    let told = make(&mut self.host, order, &self.script.line);
+                    if !self.agrees(order, told) {
+                        return Err(self.differ(told));
+                    }
                 }
-                order => return Ok((order == end).then_some(line)),
             }
         }
-        Ok(None)
+        Ok(false)
     }
 
     // The lines of an open month, up to K.
-    fn live(&mut self, month: &mut Month<Open>, lines: &mut Iter<'_, Line>) -> anyhow::Result<()> {
-        let closed = self.take_until(Order::Close, lines, |host, call, line| {
-            host.call(month, call, line)
+    fn live(&mut self, month: &mut Month<Open>) -> anyhow::Result<()> {
+        let is_closed = self.take_until(Order::Close, |host, order, line| {
+            host.call(month, order, line)
         })?;
-        match closed {
-            Some(_) => Ok(()),
-            None => bail!("a month is not closed"),
-        }
+        ensure!(is_closed, "a month is not closed");
+        Ok(())
     }
 
     // The lines of a closed month, up to the dot; answers how many places must be taken.
-    fn certify(
-        &mut self,
-        month: &Month<Closed>,
-        lines: &mut Iter<'_, Line>,
-    ) -> anyhow::Result<u16> {
-        let finished = self.take_until(Order::Finish, lines, |host, call, line| {
-            host.call_closed(month, call, line)
+    fn certify(&mut self, month: &Month<Closed>) -> anyhow::Result<u16> {
+        let is_finished = self.take_until(Order::Finish, |host, order, line| {
+            host.call_closed(month, order, line)
         })?;
-        match finished {
-            Some(line) => Ok(line.number(0)),
-            None => bail!("a month has no end"),
-        }
+        ensure!(is_finished, "a month has no end");
+        Ok(self.script.line.number(0))
     }
 
-    // A month that a line opened, up to its end.
-    fn go_through(
-        &mut self,
-        mut month: Month<Open>,
-        line: &Line,
-        rest: &[Line],
-    ) -> anyhow::Result<()> {
-        let mut lines = rest.iter();
-        let opened = self.judge(Call::Open, line, Told::Passed);
-        let lived = self.live(&mut month, &mut lines);
+    // A month that was opened. It is closed, and its lines go on, where a line of the open month is told something else too.
+    fn go_through(&mut self, mut month: Month<Open>) -> anyhow::Result<()> {
+        let lived = self.live(&mut month);
         let closed = month.close();
-        let places = self.certify(&closed, &mut lines);
+        let places = self.certify(&closed);
         let taken = closed.discard();
-        opened?;
         lived?;
         if places? == taken {
             return Ok(());
@@ -113,48 +115,45 @@ impl<'a> Trial<'a> {
         bail!("a refused offer took a place")
     }
 
-    // Opens a month, or says what the opening is told.
-    fn open(&mut self, line: &Line) -> Result<Result<Month<Open>, Told>, AllocError> {
-        let before = self.host.held()?;
+    // The line outside a month: memories, or an opening, whatever else it orders.
+    fn begin(&mut self, order: Order) -> anyhow::Result<()> {
+        let line = &self.script.line;
+        if let Order::Prepare(step) = order {
+            self.host.prepare(step, line)?;
+            return Ok(());
+        }
+        let before = self.host.mark();
         match self
             .host
             .open(line.number(0), line.number(1), line.number(2))
         {
-            Ok(month) => Ok(Ok(month)),
+            Ok(month) => {
+                let opened = self.judge(order, Told::Passed);
+                let gone = self.go_through(month);
+                opened.and(gone)
+            }
             Err(fault) => {
-                let moved = self.host.held()? != before;
-                Ok(Err(Told::from(Err(fault)).unless_moved(moved)))
+                let told = self.host.told(before, Err(fault));
+                self.judge(order, told)
             }
         }
-    }
-
-    // The lines up to the end of a month: what comes before it, and the month.
-    fn part(&mut self, lines: &[Line]) -> anyhow::Result<()> {
-        for (before, line) in lines.iter().enumerate() {
-            match line.order {
-                Order::Prepare(step) => self.host.prepare(step, line)?,
-                Order::Call(Call::Open) => match self.open(line)? {
-                    Ok(month) => return self.go_through(month, line, &lines[before + 1..]),
-                    Err(told) => self.judge(Call::Open, line, told)?,
-                },
-                _ => bail!("a line stands outside a month"),
-            }
-        }
-        Ok(())
     }
 }
 
 fn run(rt: &HostRuntime) -> anyhow::Result<()> {
-    let heap = rt.alloc();
-    let text = io::read_to_string(heap, rt.stdin())?;
-    let lines = script::read(heap, text.as_str())?;
+    let mut text = Vec::new(rt.alloc());
+    rt.stdin().read_to_end(&mut text)?;
     let mut trial = Trial {
         rt,
-        host: Host::new(heap, 2, 1, 1)?,
-        tally: Tally::new(heap),
+        script: Script::new(text.as_slice()),
+        host: Host::new(rt.alloc(), 2, 1, 1)?,
+        tally: Tally::new(),
     };
-    for part in lines.split_inclusive(|line| line.order == Order::Finish) {
-        trial.part(part)?;
+    for _ in 0..MANY {
+        match trial.script.next_order() {
+            Order::Blank => break,
+            order => trial.begin(order)?,
+        }
     }
     trial.tally.show(rt)
 }

@@ -1,7 +1,5 @@
 // What a line of the script orders, by its letter.
-use anyhow::bail;
 use std::fmt;
-use std::str::FromStr;
 
 #[derive(Clone, Copy, PartialEq, Eq, Debug)]
 pub enum Order {
@@ -9,6 +7,10 @@ pub enum Order {
     Call(Call),
     Close,
     Finish,
+    // a line without a letter, as they all are after the end of the script
+    Blank,
+    // a letter of no other order
+    Unnamed,
 }
 
 // What a host does to its memories.
@@ -22,8 +24,8 @@ pub enum Step {
     WriteShortfall,
 }
 
-// The calls of a month, in the order in which their refusals are told.
-#[derive(Clone, Copy, PartialEq, Eq, PartialOrd, Ord, Debug)]
+// The calls of a month whose refusals are told by their names.
+#[derive(Clone, Copy, PartialEq, Eq, Debug)]
 pub enum Call {
     Open,
     Change(Change),
@@ -33,7 +35,7 @@ pub enum Call {
 }
 
 // A call that changes an open month.
-#[derive(Clone, Copy, PartialEq, Eq, PartialOrd, Ord, Debug)]
+#[derive(Clone, Copy, PartialEq, Eq, Debug)]
 pub enum Change {
     Offer,
     Confirm,
@@ -42,7 +44,7 @@ pub enum Change {
 }
 
 // A question on all four memories.
-#[derive(Clone, Copy, PartialEq, Eq, PartialOrd, Ord, Debug)]
+#[derive(Clone, Copy, PartialEq, Eq, Debug)]
 pub enum Question {
     Lookup,
     Quantity,
@@ -50,7 +52,7 @@ pub enum Question {
 }
 
 // A question on a board alone.
-#[derive(Clone, Copy, PartialEq, Eq, PartialOrd, Ord, Debug)]
+#[derive(Clone, Copy, PartialEq, Eq, Debug)]
 pub enum BoardQuestion {
     Position,
     NetPosition,
@@ -68,43 +70,65 @@ pub enum BoardQuestion {
 //   O the nine terms; C number agent weights; E number agent; S agent kWh
 //   F number: lookup; Q number hour: quantity; T agent: turnover; W agent bytes: certificate line
 //   P, N, Y agent submarket hour: position, net position, position by source; B submarket hour: balance
-impl FromStr for Order {
-    type Err = anyhow::Error;
-
-    fn from_str(letter: &str) -> anyhow::Result<Order> {
-        Ok(match letter {
-            "G" => Order::Prepare(Step::Renew),
-            "+" => Order::Prepare(Step::Lengthen),
-            "-" => Order::Prepare(Step::Shorten),
-            "X" => Order::Prepare(Step::WriteField),
-            "R" => Order::Prepare(Step::WriteRow),
-            "D" => Order::Prepare(Step::WriteShortfall),
-            "K" => Order::Close,
-            "." => Order::Finish,
-            _ => Order::Call(letter.parse::<Call>()?),
-        })
+impl From<u8> for Order {
+    fn from(letter: u8) -> Order {
+        match letter {
+            b'G' => Order::Prepare(Step::Renew),
+            b'+' => Order::Prepare(Step::Lengthen),
+            b'-' => Order::Prepare(Step::Shorten),
+            b'X' => Order::Prepare(Step::WriteField),
+            b'R' => Order::Prepare(Step::WriteRow),
+            b'D' => Order::Prepare(Step::WriteShortfall),
+            b'K' => Order::Close,
+            b'.' => Order::Finish,
+            0 => Order::Blank,
+            _ => Call::named(letter).map_or(Order::Unnamed, Order::Call),
+        }
     }
 }
 
-impl FromStr for Call {
-    type Err = anyhow::Error;
+impl Call {
+    // In the order in which their refusals are told.
+    pub const ALL: [Call; 13] = [
+        Call::Open,
+        Call::Change(Change::Offer),
+        Call::Change(Change::Confirm),
+        Call::Change(Change::End),
+        Call::Change(Change::Tell),
+        Call::Ask(Question::Lookup),
+        Call::Ask(Question::Quantity),
+        Call::Ask(Question::Turnover),
+        Call::Certify,
+        Call::AskBoard(BoardQuestion::Position),
+        Call::AskBoard(BoardQuestion::NetPosition),
+        Call::AskBoard(BoardQuestion::PositionBySource),
+        Call::AskBoard(BoardQuestion::Balance),
+    ];
 
-    fn from_str(letter: &str) -> anyhow::Result<Call> {
-        Ok(match letter {
-            "M" => Call::Open,
-            "O" => Call::Change(Change::Offer),
-            "C" => Call::Change(Change::Confirm),
-            "E" => Call::Change(Change::End),
-            "S" => Call::Change(Change::Tell),
-            "F" => Call::Ask(Question::Lookup),
-            "Q" => Call::Ask(Question::Quantity),
-            "T" => Call::Ask(Question::Turnover),
-            "W" => Call::Certify,
-            "P" => Call::AskBoard(BoardQuestion::Position),
-            "N" => Call::AskBoard(BoardQuestion::NetPosition),
-            "Y" => Call::AskBoard(BoardQuestion::PositionBySource),
-            "B" => Call::AskBoard(BoardQuestion::Balance),
-            _ => bail!("no line begins so"),
+    // Its place in that order, from 0.
+    pub fn index(self) -> usize {
+        Call::ALL
+            .iter()
+            .position(|call| *call == self)
+            .unwrap_or(Call::ALL.len())
+    }
+
+    fn named(letter: u8) -> Option<Call> {
+        Some(match letter {
+            b'M' => Call::Open,
+            b'O' => Call::Change(Change::Offer),
+            b'C' => Call::Change(Change::Confirm),
+            b'E' => Call::Change(Change::End),
+            b'S' => Call::Change(Change::Tell),
+            b'F' => Call::Ask(Question::Lookup),
+            b'Q' => Call::Ask(Question::Quantity),
+            b'T' => Call::Ask(Question::Turnover),
+            b'W' => Call::Certify,
+            b'P' => Call::AskBoard(BoardQuestion::Position),
+            b'N' => Call::AskBoard(BoardQuestion::NetPosition),
+            b'Y' => Call::AskBoard(BoardQuestion::PositionBySource),
+            b'B' => Call::AskBoard(BoardQuestion::Balance),
+            _ => return None,
         })
     }
 }

@@ -1,52 +1,33 @@
 // What a call is told.
-use anyhow::bail;
 use scale::fault::Fault;
 use std::fmt;
-use std::str::FromStr;
 
 // A refusal is told by the number that people know it by, as the script writes it.
 #[derive(Clone, Copy, PartialEq, Eq, Debug)]
 pub enum Told {
     Passed,
     Refused { number: u16, spot: usize },
-    // a refusal that moved something, which none may
+    // a refusal that moved something, which none may: a number and a spot that no refusal has
     Moved,
 }
 
-impl From<Result<(), Fault>> for Told {
-    fn from(answer: Result<(), Fault>) -> Told {
-        match answer {
-            Ok(()) => Told::Passed,
-            Err(fault) => Told::Refused {
-                number: fault.reason.number(),
-                spot: fault.spot,
-            },
+impl From<Fault> for Told {
+    fn from(fault: Fault) -> Told {
+        Told::Refused {
+            number: fault.reason.number(),
+            spot: fault.spot,
         }
     }
 }
 
-impl Told {
-    // The same of a refusal that moved something, if it did.
-    pub fn unless_moved(self, moved: bool) -> Told {
-        match self {
-            Told::Refused { .. } if moved => Told::Moved,
-            _ => self,
-        }
-    }
-}
-
-// A number and a spot; zeros where a call passes.
-impl FromStr for Told {
-    type Err = anyhow::Error;
-
-    fn from_str(text: &str) -> anyhow::Result<Told> {
-        let Some((number, spot)) = text.trim().split_once(' ') else {
-            bail!("a number and a spot are wanted");
-        };
-        Ok(match (number.parse::<u16>()?, spot.parse::<usize>()?) {
+// A number and a spot, as the script writes them; zeros where a call passes.
+impl From<(u16, usize)> for Told {
+    fn from(told: (u16, usize)) -> Told {
+        match told {
             (0, 0) => Told::Passed,
+            (99, 99) => Told::Moved,
             (number, spot) => Told::Refused { number, spot },
-        })
+        }
     }
 }
 
@@ -55,7 +36,7 @@ impl fmt::Display for Told {
         match self {
             Told::Passed => write!(f, "0 0"),
             Told::Refused { number, spot } => write!(f, "{number} {spot}"),
-            Told::Moved => write!(f, "a refusal that moved something"),
+            Told::Moved => write!(f, "99 99"),
         }
     }
 }
