@@ -4,7 +4,6 @@ use Rattle.scale.specs.declared.fault.Fault.{Fault}
 use Rattle.scale.specs.Refusals.{refusal_of}
 use Rattle.entry.specs.declared.joining.Joining as joining
 use Rattle.entry.specs.Kinds.{Kind}
-use Rattle.ledger.specs.declared.counted.Counted as counted
 use Rattle.ledger.specs.Checks.{position_refusal, certificate_refusal}
 use Rattle.lines.specs.declared.reply.Reply.{Reply}
 use Rattle.month.specs.Questions.{certified}
@@ -14,11 +13,8 @@ use Rattle.session.specs.Held.{Held}
 use Rattle.session.specs.Turns.{Showing, Told, unfit}
 
 -- how a kind of entry tells positions
-abbrev pub showing_of : {E : Type 0} (j : joining.Ghosts E) → counted.Ghosts E → shown.Ghosts E → Showing j.Value
-showing_of {E} j c s = record {
-  Shows = λ v reply. (e : E) × (j.value e ≡ v) × (reply ≡ s.shows e);
-  tells = λ b agent submarket hour. s.shows (c.difference b agent submarket hour);
-}
+abbrev pub showing_of : {E : Type 0} (j : joining.Ghosts E) → shown.Ghosts E → Showing j.Value
+showing_of {E} j s = record { Shows = λ v reply. (e : E) × (j.value e ≡ v) × (reply ≡ s.shows e); tells = s.tells }
 
 abbrev pub PositionAsked : {V : Type 0} → Kind V → Showing V → ℕ → ℕ → ℕ → Option (Held V) → Result Reply Fault → Type 0
 PositionAsked k tell agent submarket hour None r = refusal_of r ≡ Some unfit

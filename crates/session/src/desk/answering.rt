@@ -27,7 +27,7 @@ pub(crate) fn put_ack(page: &mut [u8; ROOM], answer: Result<(), Fault>) -> usize
 impl<E: Shown> Desk<E> {
     // Answers a command other than one that opens: for every kind of entry, one text.
     pub(crate) fn answer(&mut self, command: Command, page: &mut [u8; ROOM]) -> usize
-        ensures does { Replied (λ line. DeskTurned (meaning E.Joining E.Reversible.own) (showing_of E.Joining E.Counted.own E.Shown.own) command
+        ensures does { Replied (λ line. DeskTurned (meaning E.Joining E.Reversible.own) (showing_of E.Joining E.Shown.own) command
             (held_of E.Joining self.old) line (held_of E.Joining self.new))
             page.old page.new result }
         ensures within { result ≤ 64 }

@@ -15,17 +15,13 @@ use scale::fault::Fault;
 impl<E: Shown> Desk<E> {
     // The reply that tells a position. An open month and a closed one are of two types, so each has its arm.
     pub(crate) fn position(&self, agent: u16, submarket: u16, hour: u16) -> Result<Reply, Fault>
-        ensures { PositionAsked (meaning E.Joining E.Reversible.own) (showing_of E.Joining E.Counted.own E.Shown.own) agent submarket hour (held_of E.Joining self.now) result }
+        ensures { PositionAsked (meaning E.Joining E.Reversible.own) (showing_of E.Joining E.Shown.own) agent submarket hour (held_of E.Joining self.now) result }
     {
         let board = &self.board[..self.lengths.entries];
         match &self.stage {
             Stage::Idle => Err(OUT_OF_TURN),
-            Stage::Open(month) => month
-                .true_position(board, agent, submarket, hour)
-                .map(E::reply),
-            Stage::Closed(month) => month
-                .true_position(board, agent, submarket, hour)
-                .map(E::reply),
+            Stage::Open(month) => E::position(month, board, agent, submarket, hour),
+            Stage::Closed(month) => E::position(month, board, agent, submarket, hour),
         }
     }
 

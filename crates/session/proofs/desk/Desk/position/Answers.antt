@@ -7,14 +7,14 @@ pub returns-in-Open : goal.returns-in-Open
 returns-in-Open g c =
     let a = c.args in
     let d = a.self.now in
-    let e = c.true_position.ensures in
-    rw c.in-Open.is (asked g.E.Joining g.E.Reversible g.E.Counted g.E.Shown (state_on g.E.Joining d c.in-Open.month) (take d.lengths.entries d.board) refl
-    a.agent a.submarket a.hour c.true_position.result c.map.result c.map.ensures.cases e.answer e.entry e.lived)
+    let e = c.position.ensures in
+    rw c.in-Open.is (asked g.E.Joining g.E.Reversible g.E.Shown (state_on g.E.Joining d c.in-Open.month) (take d.lengths.entries d.board) refl
+    a.agent a.submarket a.hour c.position.result e.answer e.shown e.lived)
 
 pub returns-in-Closed : goal.returns-in-Closed
 returns-in-Closed g c =
     let a = c.args in
     let d = a.self.now in
-    let e = c.true_position-in-Closed.ensures in
-    rw c.in-Closed.is (asked g.E.Joining g.E.Reversible g.E.Counted g.E.Shown (state_on g.E.Joining d c.in-Closed.month) (take d.lengths.entries d.board) refl
-    a.agent a.submarket a.hour c.true_position-in-Closed.result c.map-in-Closed.result c.map-in-Closed.ensures.cases e.answer e.entry e.lived)
+    let e = c.position-in-Closed.ensures in
+    rw c.in-Closed.is (asked g.E.Joining g.E.Reversible g.E.Shown (state_on g.E.Joining d c.in-Closed.month) (take d.lengths.entries d.board) refl
+    a.agent a.submarket a.hour c.position-in-Closed.result e.answer e.shown e.lived)
