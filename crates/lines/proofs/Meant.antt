@@ -1,5 +1,5 @@
 -- Which numbers a letter takes.
-use Rattle.std.proofs.Common.{◌≡◌, ℕ, zero, suc, ◌^◌, ◌<◌, false, List, [], ◌∷◌, length, get_or, take, drop, Some, None, Ok, Err, Option, Result, IsOk, IfOk, MatchOption, ◌↔◌, refl, sym, ap, ◌∙◌, subst, arith}
+use Rattle.std.proofs.Common.{◌≡◌, ℕ, zero, suc, ◌^◌, ◌<◌, cond, eqb, false, List, [], ◌∷◌, length, get_or, take, drop, Some, None, Ok, Err, Option, Result, IsOk, IfOk, MatchOption, ◌↔◌, refl, sym, ap, ◌∙◌, subst, arith}
 use Rattle.std.proofs.lemmas.Bool.{both_ways}
 use Rattle.std.specs.Result.{result_ok}
 use Rattle.lines.specs.Grammar.{AllShort, letter, numbers, InFields, Means, Parsed, AllWide, Only, spelled}
@@ -21,18 +21,26 @@ pub filled : {E : Type 0} (n : ℕ) (ns items : List ℕ) (r : Result (List ℕ)
 filled n ns items (Ok a) same s full is = (is ∙ same, ap length is ∙ full.0 refl, subst AllShort (sym (is ∙ same)) s)
 filled n ns items (Err e) same s full is = λ long _. both_ways false refl (full.1 (ap length same ∙ long))
 
--- only an offer has the letter O
-pub none : (ns : List ℕ) → (length ns ≡ 9 → AllShort (take 8 ns) → get_or (drop 8 ns) 0 0 < 2 ^ 32 → ⊥) → (c : Command) → InFields c → letter c ≡ 79 → numbers c ≡ ns → ⊥
-none ns fits (Offer a b c d e f g h x) s l is =
-    subst (λ ms. (length ms ≡ 9 → AllShort (take 8 ms) → get_or (drop 8 ms) 0 0 < 2 ^ 32 → ⊥) → ⊥) is
-    (λ no_one. no_one refl (s.0, (s.1, (s.2, (s.3, (s.4, (s.5, (s.6, (s.7, tt)))))))) s.8) fits
-none ns fits (Open a b c d) s l is = omega arith
-none ns fits (Confirm a b) s l is = omega arith
-none ns fits (End a b) s l is = omega arith
-none ns fits (Tell a x) s l is = omega arith
-none ns fits (Position a b c) s l is = omega arith
-none ns fits Close s l is = omega arith
-none ns fits (Certificate a) s l is = omega arith
+abbrev Shorts : ℕ → List ℕ → Type 0
+Shorts n ns = (length ns ≡ n) × AllShort ns
+
+-- what the numbers of a command are, by its letter
+abbrev Right : ℕ → List ℕ → Type 0
+Right l ns = cond (eqb l 77) (Shorts 4 ns) (cond (eqb l 79) ((length ns ≡ 9) × AllShort (take 8 ns) × (get_or (drop 8 ns) 0 0 < 2 ^ 32)) (cond (eqb l 67) (Shorts 2 ns) (cond (eqb l 69) (Shorts 2 ns) (cond (eqb l 83) ((length ns ≡ 2) × (get_or ns 0 0 < 2 ^ 16)) (cond (eqb l 80) (Shorts 3 ns) (cond (eqb l 90) (Shorts 0 ns) (Shorts 1 ns)))))))
+
+right : (c : Command) → InFields c → Right (letter c) (numbers c)
+right (Open a b c d) f = (refl, (f.0, (f.1, (f.2, (f.3, tt)))))
+right (Offer a b c d e f g h x) s = (refl, (s.0, (s.1, (s.2, (s.3, (s.4, (s.5, (s.6, (s.7, tt)))))))), s.8)
+right (Confirm a b) f = (refl, (f.0, (f.1, tt)))
+right (End a b) f = (refl, (f.0, (f.1, tt)))
+right (Tell a x) f = (refl, f.0)
+right (Position a b c) f = (refl, (f.0, (f.1, (f.2, tt))))
+right Close f = (refl, tt)
+right (Certificate a) f = (refl, (f, tt))
+
+-- no command has this letter and these numbers
+pub none : (l : ℕ) (ns : List ℕ) → (Right l ns → ⊥) → (c : Command) → InFields c → letter c ≡ l → numbers c ≡ ns → ⊥
+none l ns no_one c f e is = no_one (subst (λ (m : ℕ). Right m ns) e (subst (Right (letter c)) is (right c f)))
 
 wide : (c : Command) → InFields c → AllWide (numbers c)
 wide (Open a b c d) f = (omega arith, (omega arith, (omega arith, (omega arith, tt))))

@@ -1,5 +1,5 @@
 // Lines as commands.
-ghost use Rattle.std.specs.Prelude.{◌≡◌, ℕ, ◌^◌, ◌<◌, ◌≤◌, List, length, decimal, MatchOption, ◌≢◌};
+ghost use Rattle.std.specs.Prelude.{◌≡◌, ℕ, ◌^◌, ◌<◌, ◌≤◌, List, [], length, decimal, MatchOption, ◌≢◌};
 ghost use Rattle.std.specs.Option.{SomeIff};
 ghost use Rattle.lines.specs.Grammar.{spelled, Only, AllWide, AllShort, Means, Parsed, Exact, Within};
 
@@ -7,20 +7,29 @@ use crate::command::Command;
 use crate::hold::LONGEST;
 use arrayvec::ArrayVec;
 
-// The number that the whole of `text` writes: digits alone, with no zero in front.
+// The number that the whole of `text` writes: digits alone, with no zero in front. They are read here, since the library reads a
+// number from a `str` alone, and to see that the bytes are one took longer than to read a number of few digits.
 fn number(text: &[u8]) -> Option<u64>
     ensures { MatchOption result ((n : ℕ) → n < 2 ^ 64 → text.now ≢ decimal n) (λ n. text.now ≡ decimal n) }
 {
     match *text.first()? {
-        b'+' => None,
         b'0' if text.len() > 1 => None,
-        _ => std::str::from_utf8(text).ok()?.parse().ok(),
+        _ => {
+            let mut number = 0u64;
+            for b in text {
+                let digit = char::from(*b).to_digit(10)?;
+                number = number.checked_mul(10)?.checked_add(u64::from(digit))?;
+            }
+            Some(number)
+        }
     }
 }
 
-// The numbers of a line after its letter, at most nine, each after one space.
-fn read_numbers(text: &[u8]) -> Option<ArrayVec<u64, 9>>
-    ensures { MatchOption result ((ns : List ℕ) → AllWide ns → length ns ≤ 9 → text.now ≢ spelled ns) (λ v. Only text.now v.items) }
+// Puts the numbers of a line after its letter, at most nine, each after one space, into the caller's empty list: nine numbers
+// that are handed out would be copied on the way.
+fn read_numbers(text: &[u8], numbers: &mut ArrayVec<u64, 9>) -> Option<()>
+    requires { numbers.old.items ≡ [] }
+    ensures { MatchOption result ((ns : List ℕ) → AllWide ns → length ns ≤ 9 → text.now ≢ spelled ns) (λ _. Only text.now numbers.new.items) }
 {
     // What begins otherwise is looked at no further.
     if text.first().is_some_and(|b| *b != b' ') {
@@ -29,11 +38,10 @@ fn read_numbers(text: &[u8]) -> Option<ArrayVec<u64, 9>>
     let mut words = text.split(|b| *b == b' ');
     // Nothing stands before the first space.
     words.next()?;
-    let mut numbers = ArrayVec::new();
     for word in words {
         numbers.try_push(number(word)?).ok()?;
     }
-    Some(numbers)
+    Some(())
 }
 
 // A number of 16 bits.
@@ -164,5 +172,7 @@ pub fn parse_line(line: &[u8]) -> Option<Command>
         return None;
     }
     let (letter, rest) = line.split_first()?;
-    meant(*letter, read_numbers(rest)?.as_slice())
+    let mut numbers = ArrayVec::new();
+    read_numbers(rest, &mut numbers)?;
+    meant(*letter, numbers.as_slice())
 }

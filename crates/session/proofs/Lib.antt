@@ -1,4 +1,5 @@
 pub mod Fronts
+pub mod Opens
 pub mod Staged
 pub mod Positions
 pub mod Replies
