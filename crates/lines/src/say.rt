@@ -1,5 +1,6 @@
 // Replies written into memory that is lent, with no allocation.
-ghost use Rattle.std.specs.Prelude.{◌<◌, ◌≤◌, length};
+ghost use Rattle.std.specs.Prelude.{◌<◌, ◌≤◌, length, decimal};
+ghost use Rattle.std.specs.Fmt.{signed_decimal};
 ghost use Rattle.page.specs.Page.{Fronted, HasRoom, SamePage, Wrote};
 ghost use Rattle.lines.specs.Spoken.{spoken, spoken_line};
 
@@ -8,6 +9,53 @@ use page::pen::Pen;
 
 // Room for every line that is answered.
 pub const ROOM: usize = 64;
+
+// Writes a number of one or two digits: the buffer that a longer one is made in takes longer than they do.
+fn put_short(pen: &mut Pen, n: u64)
+    requires short { n < 100 }
+    requires room { HasRoom pen.old 2 }
+    ensures same_page { SamePage pen.old pen.new }
+    ensures wrote { Wrote pen.old (decimal n) pen.new }
+{
+    if n < 10 {
+        pen.byte(b'0' + n as u8);
+    } else {
+        pen.byte(b'0' + (n / 10) as u8);
+        pen.byte(b'0' + (n % 10) as u8);
+    }
+}
+
+// Writes the number of a refusal, or its spot.
+#[tactic(auto, using(page::proofs::Over::short_20))]
+fn put_number(pen: &mut Pen, n: u64)
+    requires { HasRoom pen.old 20 }
+    ensures same_page { SamePage pen.old pen.new }
+    ensures wrote { Wrote pen.old (decimal n) pen.new }
+{
+    if n < 100 {
+        put_short(pen, n);
+    } else {
+        pen.number(n);
+    }
+}
+
+// Writes a position, a negative one with its sign in front.
+#[tactic(auto, using(page::proofs::Over::signed_20))]
+fn put_position(pen: &mut Pen, kwh: i64)
+    requires { HasRoom pen.old 20 }
+    ensures same_page { SamePage pen.old pen.new }
+    ensures wrote { Wrote pen.old (signed_decimal kwh) pen.new }
+{
+    match kwh {
+        -99..=99 => {
+            if kwh < 0 {
+                pen.byte(b'-');
+            }
+            put_short(pen, kwh.unsigned_abs());
+        }
+        _ => pen.number(kwh),
+    }
+}
 
 // Writes a reply without its line feed.
 #[tactic(auto, using(page::proofs::Over::short_5, page::proofs::Over::short_20, page::proofs::Over::signed_20))]
@@ -21,22 +69,22 @@ fn put_words(pen: &mut Pen, reply: Reply)
         Reply::Done => pen.text(b"ok"),
         Reply::Refused { number, spot } => {
             pen.text(b"no ");
-            pen.number(number);
+            put_number(pen, u64::from(number));
             pen.text(b" ");
-            pen.number(spot);
+            put_number(pen, spot as u64);
         }
         Reply::At { net } => {
             pen.text(b"at ");
-            pen.number(net);
+            put_position(pen, net);
         }
         Reply::AtBySource {
             conventional,
             incentivised,
         } => {
             pen.text(b"at ");
-            pen.number(conventional);
+            put_position(pen, conventional);
             pen.text(b" ");
-            pen.number(incentivised);
+            put_position(pen, incentivised);
         }
     }
 }
