@@ -10,7 +10,8 @@ use page::pen::Pen;
 // Room for every line that is answered.
 pub const ROOM: usize = 64;
 
-// Writes a number of one or two digits: the buffer that a longer one is made in takes longer than they do.
+// Writes a number of one or two digits: the buffer that a longer one is made in takes longer than they do, and so does a call.
+#[inline(always)]
 fn put_short(pen: &mut Pen, n: u64)
     requires short { n < 100 }
     requires room { HasRoom pen.old 2 }
@@ -41,6 +42,7 @@ fn put_number(pen: &mut Pen, n: u64)
 
 // Writes a position, a negative one with its sign in front.
 #[tactic(auto, using(page::proofs::Over::signed_20))]
+#[inline(always)]
 fn put_position(pen: &mut Pen, kwh: i64)
     requires { HasRoom pen.old 20 }
     ensures same_page { SamePage pen.old pen.new }
@@ -59,6 +61,7 @@ fn put_position(pen: &mut Pen, kwh: i64)
 
 // Writes a reply without its line feed.
 #[tactic(auto, using(page::proofs::Over::short_5, page::proofs::Over::short_20, page::proofs::Over::signed_20))]
+#[inline(always)]
 fn put_words(pen: &mut Pen, reply: Reply)
     requires { HasRoom pen.old 64 }
     ensures same_page { SamePage pen.old pen.new }
